@@ -2,6 +2,7 @@
 use super::super::assert_same;
 use std::alloc::AllocGlobal;
 use std::process::Abort;
+use std::test::Fail;
 use tk_ntp::SteeredNumbers;
 use tk_script::{RowReader, Script, ScriptError, Start};
 
@@ -74,31 +75,22 @@ fn assert_fault(rt: &(impl Abort + AllocGlobal), numbers: &[u8], fault: Option<S
 }
 
 #[test]
-fn continues_steered_clocks(rt: HostRuntime) {
-    let bytes = record(&rt, NUMBERS);
-    match Script::from_bytes(rt.alloc(), bytes.as_slice()) {
-        Ok(script) => assert_continued(&rt, script.start),
-        Err(error) => assert_same(&rt, &Some(error), &None),
-    }
+fn continues_steered_clocks(rt: HostRuntime) -> Result<(), Fail> {
+    assert_continued(&rt, record(&rt, NUMBERS).as_slice())
 }
 
 #[test]
-fn continues_steered_clocks_by_fields_in_quotes(rt: HostRuntime) {
+fn continues_steered_clocks_by_fields_in_quotes(rt: HostRuntime) -> Result<(), Fail> {
     let mut bytes = record(&rt, NUMBERS);
-    bytes
-        .extend_from_slice(b"\n\"update\",\"9496540211\"\n")
-        .expect(&rt, "memory");
-    match Script::from_bytes(rt.alloc(), bytes.as_slice()) {
-        Ok(script) => assert_continued(&rt, script.start),
-        Err(error) => assert_same(&rt, &Some(error), &None),
-    }
+    bytes.extend_from_slice(b"\n\"update\",\"9496540211\"\n")?;
+    assert_continued(&rt, bytes.as_slice())
 }
 
 /// Stops the test unless a script continues the clocks of `CLOCKS` with the numbers `NUMBERS`.
-fn assert_continued(rt: &impl Abort, start: Start) {
+fn assert_continued(rt: &(impl Abort + AllocGlobal), script: &[u8]) -> Result<(), Fail> {
+    let start = Script::from_bytes(rt.alloc(), script)?.start;
     let Start::Continued { clock, front } = start else {
-        assert!(rt; false);
-        return;
+        return Err(Fail::from("continued clocks"));
     };
     let words = [
         10,
@@ -117,6 +109,7 @@ fn assert_continued(rt: &impl Abort, start: Start) {
     assert_same(rt, &clock.rate().frequency, &24_718_429);
     assert_same(rt, &clock.rate().tick, &10_000);
     assert_numbers(rt, clock.numbers());
+    Ok(())
 }
 
 /// Stops the test unless these are the numbers `NUMBERS`.

@@ -1,5 +1,5 @@
 use super::super::assert_same;
-use std::process::Abort;
+use std::test::Fail;
 use tk_script::{RowReader, Script, ScriptError, Start};
 
 /// A 32-bit counter at 1 ns per cycle, whose clocks have accepted 5 commands. The last one was at
@@ -32,18 +32,10 @@ const WRONG: [&[u8]; 12] = [
 ];
 
 #[test]
-fn reads_running_clocks(rt: HostRuntime) {
-    match Script::from_bytes(rt.alloc(), RUNNING) {
-        Ok(script) => assert_running(&rt, script.start),
-        Err(error) => assert_same(&rt, &Some(error), &None),
-    }
-}
-
-/// Stops the test unless a script begins from the clocks of `RUNNING`.
-fn assert_running(rt: &impl Abort, start: Start) {
+fn reads_running_clocks(rt: HostRuntime) -> Result<(), Fail> {
+    let start = Script::from_bytes(rt.alloc(), RUNNING)?.start;
     let Start::Running { clock, front } = start else {
-        assert!(rt; false);
-        return;
+        return Err(Fail::from("running clocks"));
     };
     let words = [
         5,
@@ -57,10 +49,11 @@ fn assert_running(rt: &impl Abort, start: Start) {
         1,
         7,
     ];
-    assert_same(rt, &front, &5);
-    assert_same(rt, &clock.snapshot(front).words(), &words);
-    assert_same(rt, &clock.frequency(), &0);
-    assert_same(rt, &clock.tick(), &10_000);
+    assert_same(&rt, &front, &5);
+    assert_same(&rt, &clock.snapshot(front).words(), &words);
+    assert_same(&rt, &clock.frequency(), &0);
+    assert_same(&rt, &clock.tick(), &10_000);
+    Ok(())
 }
 
 #[test]
