@@ -7,7 +7,7 @@ use anyhow::{Context, Result};
 use std::alloc::Global;
 use std::thread::Threads;
 use std::time::Clock as Hours;
-use tk_clock::Command;
+use tk_clock::{Command, Snapshot};
 use tk_counter::CounterDesc;
 use tk_keeper::Timekeeper;
 use tk_steered::{SECOND_ENTRIES_LIMIT, Steered};
@@ -27,17 +27,61 @@ const HZ: u32 = 1_000;
 
 const TURNS: u32 = 100;
 
-/// Applies updates to a keeper whose memory is reserved.
-#[derive(Drop)]
-struct Updates {
-    alloc: Global,
-    desc: CounterDesc,
-    keeper: Timekeeper,
+/// Keeps the journal of its commands.
+trait Keeper: Drop {
+    /// Opens a keeper with memory for a turn's commands. Returns `None` if a call fails.
+    fn reserved(alloc: Global, desc: CounterDesc) -> Option<Self>;
+
+    /// Applies an update. Returns `None` if it is refused.
+    fn update(&mut self, reading: u64) -> Option<u64>;
+
+    /// Returns the snapshot of the last command.
+    fn last(&self) -> Snapshot;
 }
 
-impl Job for Updates {
+impl Keeper for Timekeeper {
+    fn reserved(alloc: Global, desc: CounterDesc) -> Option<Timekeeper> {
+        let mut keeper = Timekeeper::open(alloc, desc, 0, OPENED_TIME).ok()?;
+        keeper.reserve(RESERVED).ok()?;
+        Some(keeper)
+    }
+
+    fn update(&mut self, reading: u64) -> Option<u64> {
+        self.apply(0, reading, Command::Update).ok()
+    }
+
+    fn last(&self) -> Snapshot {
+        self.snapshot()
+    }
+}
+
+impl Keeper for Steered {
+    fn reserved(alloc: Global, desc: CounterDesc) -> Option<Steered> {
+        let mut steered = Steered::open(alloc, desc, 0, OPENED_TIME, HZ).ok()?;
+        steered.reserve(RESERVED).ok()?;
+        Some(steered)
+    }
+
+    fn update(&mut self, reading: u64) -> Option<u64> {
+        self.apply(0, reading, Command::Update).ok()
+    }
+
+    fn last(&self) -> Snapshot {
+        self.keeper().snapshot()
+    }
+}
+
+/// Applies updates to a keeper.
+#[derive(Drop)]
+struct Updates<K> {
+    alloc: Global,
+    desc: CounterDesc,
+    keeper: K,
+}
+
+impl<K: Keeper> Job for Updates<K> {
     fn ready(&mut self) {
-        if let Some(keeper) = keeper(self.alloc, self.desc) {
+        if let Some(keeper) = K::reserved(self.alloc, self.desc) {
             self.keeper = keeper;
         }
     }
@@ -46,77 +90,36 @@ impl Job for Updates {
         let mut reading = 0u64;
         for _ in 0..UPDATES {
             reading = reading.wrapping_add(STEP);
-            let applied = self.keeper.apply(0, reading, Command::Update);
-            applied.ok().context("a command is refused")?;
+            self.keeper.update(reading).context("a command is refused")?;
         }
         Ok(())
     }
 
     fn check(&self) -> u64 {
-        of_snapshot(&self.keeper.snapshot())
-    }
-}
-
-/// Applies the same updates to a steered keeper.
-#[derive(Drop)]
-struct SteeredUpdates {
-    alloc: Global,
-    desc: CounterDesc,
-    steered: Steered,
-}
-
-impl Job for SteeredUpdates {
-    fn ready(&mut self) {
-        if let Some(steered) = steered(self.alloc, self.desc) {
-            self.steered = steered;
-        }
-    }
-
-    fn turn<R: Threads + Hours + Sync>(&mut self, _rt: &R) -> Result<()> {
-        let mut reading = 0u64;
-        for _ in 0..UPDATES {
-            reading = reading.wrapping_add(STEP);
-            let applied = self.steered.apply(0, reading, Command::Update);
-            applied.ok().context("a command is refused")?;
-        }
-        Ok(())
-    }
-
-    fn check(&self) -> u64 {
-        of_snapshot(&self.steered.keeper().snapshot())
+        of_snapshot(&self.keeper.last())
     }
 }
 
 /// Times updates of a keeper, and of a steered one.
 pub(crate) fn run_applied(rt: &(impl Threads + Hours + Sync), bench: &Bench<'_>) -> Result<()> {
+    run_updates::<Timekeeper, _>(rt, bench, "keeper_apply_1us")?;
+    run_updates::<Steered, _>(rt, bench, "ntp_keeper_apply_1us")
+}
+
+fn run_updates<K: Keeper, R: Threads + Hours + Sync>(
+    rt: &R,
+    bench: &Bench<'_>,
+    name: &str,
+) -> Result<()> {
     let alloc = bench.alloc();
     let desc = CounterDesc::new(64, bench.unknown().wrapping_add(16_777_216), 24);
     let desc = desc.ok().context("no counter")?;
-    let unit = Unit::Each(UPDATES as u64, "command");
-    let keeper = keeper(alloc, desc).context("no keeper")?;
+    let keeper = K::reserved(alloc, desc).context("no keeper")?;
     let mut job = Updates {
         alloc,
         desc,
         keeper,
     };
-    bench.run(rt, "keeper_apply_1us", unit, TURNS, &mut job)?;
-    let steered = steered(alloc, desc).context("no steered keeper")?;
-    let mut job = SteeredUpdates {
-        alloc,
-        desc,
-        steered,
-    };
-    bench.run(rt, "ntp_keeper_apply_1us", unit, TURNS, &mut job)
-}
-
-fn keeper(alloc: Global, desc: CounterDesc) -> Option<Timekeeper> {
-    let mut keeper = Timekeeper::open(alloc, desc, 0, OPENED_TIME).ok()?;
-    keeper.reserve(RESERVED).ok()?;
-    Some(keeper)
-}
-
-fn steered(alloc: Global, desc: CounterDesc) -> Option<Steered> {
-    let mut steered = Steered::open(alloc, desc, 0, OPENED_TIME, HZ).ok()?;
-    steered.reserve(RESERVED).ok()?;
-    Some(steered)
+    let unit = Unit::Each(UPDATES as u64, "command");
+    bench.run(rt, name, unit, TURNS, &mut job)
 }
