@@ -87,14 +87,23 @@ impl<'a> Bench<'a> {
         self.unknown
     }
 
-    /// Returns whether the arguments name a job whose name begins with `beginning`.
-    pub(crate) fn wants_any(&self, beginning: &str) -> bool {
-        for name in self.names {
-            if name.as_str().starts_with(beginning) {
-                return true;
-            }
+    /// Runs jobs if the arguments name one whose name begins with one of these beginnings.
+    pub(crate) fn run_any<F: FnOnce() -> Result<()>>(
+        &self,
+        beginnings: &[&str],
+        jobs: F,
+    ) -> Result<()>
+        requires { F.IsAlwaysCallable jobs }
+    {
+        let is_named = |name: &String| {
+            beginnings
+                .iter()
+                .any(|beginning| name.as_str().starts_with(*beginning))
+        };
+        if self.names.is_empty() || self.names.iter().any(is_named) {
+            jobs()?;
         }
-        self.names.is_empty()
+        Ok(())
     }
 
     /// Returns whether the arguments name this job.

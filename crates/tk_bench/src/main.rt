@@ -38,23 +38,12 @@ fn main(rt: HostRuntime) -> Result<()> {
     let words: Vec<String> = env::args(&rt)?.collect(rt.alloc())?;
     let bench = Bench::of_words(&rt, words.as_slice())?;
     run_clocks(&rt, &bench)?;
-    if bench.wants_any("keeper_") {
-        run_keepers(&rt, &bench)?;
-    }
-    if bench.wants_any("batch_") {
-        run_batches(&rt, &bench)?;
-    }
-    if bench.wants_any("trace_") || bench.wants_any("pieces_") {
-        run_traces(&rt, &bench)?;
-    }
-    if bench.wants_any("text_") {
-        run_texts(&rt, &bench)?;
-    }
-    if bench.wants_any("ntp_") {
-        run_steered(&rt, &bench)?;
-    }
-    if bench.wants_any("ntp_keeper_") || bench.wants_any("keeper_apply_") {
-        run_applied(&rt, &bench)?;
-    }
-    Ok(())
+    bench.run_any(&["keeper_"], || run_keepers(&rt, &bench))?;
+    bench.run_any(&["batch_"], || run_batches(&rt, &bench))?;
+    bench.run_any(&["trace_", "pieces_"], || run_traces(&rt, &bench))?;
+    bench.run_any(&["text_"], || run_texts(&rt, &bench))?;
+    bench.run_any(&["ntp_"], || run_steered(&rt, &bench))?;
+    bench.run_any(&["ntp_keeper_", "keeper_apply_"], || {
+        run_applied(&rt, &bench)
+    })
 }
