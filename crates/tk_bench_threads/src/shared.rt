@@ -42,6 +42,7 @@ pub fn turn<R: Threads + Wait + Hours + Sync>(
     worked::<Brand, R>(rt, alloc, prepared, work, effort.of(COMMANDS))
 }
 
+/// Opens the prepared keeper, and times the work.
 fn worked<L: Named + Send + Sync, R: Threads + Wait + Hours + Sync>(
     rt: &R,
     alloc: Global,
@@ -53,21 +54,21 @@ fn worked<L: Named + Send + Sync, R: Threads + Wait + Hours + Sync>(
 {
     let (keeper, mut callers) = SharedKeeper::<L, Ticker>::open(alloc, prepared).ok()?;
     let mut caller = callers.pop()?;
-    timed(rt, &keeper, &mut caller, callers, work, commands)
-}
-
-fn timed<L: Named + Send + Sync, R: Threads + Wait + Hours + Sync>(
-    rt: &R,
-    keeper: &SharedKeeper<L, Ticker>,
-    caller: &mut Caller<L>,
-    others: Vec<Caller<L>>,
-    work: Work,
-    commands: u64,
-) -> Option<Turn> {
     let start = Instant::now(rt).ok()?;
-    let done = does(rt, keeper, caller, others, work, commands);
+    let done = match work {
+        Work::OneThread => {
+            gives(rt, &keeper, &mut caller, commands);
+            Done::commands(commands)
+        }
+        Work::FourThreads => {
+            quarters(rt, &keeper, callers, commands, &AtomicU64::new(0));
+            Done::commands(commands)
+        }
+        Work::ReadsBeside => beside(rt, &keeper, &mut caller, callers, commands, false),
+        Work::FastReadsBeside => beside(rt, &keeper, &mut caller, callers, commands, true),
+    };
     let time = start.elapsed(rt).ok()?;
-    let last = keeper.read(rt, caller);
+    let last = keeper.read(rt, &mut caller);
     Some(Turn {
         time,
         count: done.count,
@@ -100,30 +101,6 @@ impl Done {
     /// usual weight: 0 if all snapshots were whole.
     fn off(&self, usual: u64) -> u64 {
         self.sum.wrapping_sub(self.read.wrapping_mul(usual))
-    }
-}
-
-/// Does the work, and returns its counts.
-fn does<L: Named + Send + Sync, R: Threads + Wait + Sync>(
-    rt: &R,
-    keeper: &SharedKeeper<L, Ticker>,
-    caller: &mut Caller<L>,
-    others: Vec<Caller<L>>,
-    work: Work,
-    commands: u64,
-) -> Done {
-    match work {
-        Work::OneThread => {
-            gives(rt, keeper, caller, commands);
-            Done::commands(commands)
-        }
-        Work::FourThreads => {
-            let ended = AtomicU64::new(0);
-            quarters(rt, keeper, others, commands, &ended);
-            Done::commands(commands)
-        }
-        Work::ReadsBeside => beside(rt, keeper, caller, others, commands, false),
-        Work::FastReadsBeside => beside(rt, keeper, caller, others, commands, true),
     }
 }
 
