@@ -11,6 +11,20 @@ use tk_script::{RowReader, Script, ScriptError, Start};
 const CLOCKS: &[u8] = b"openwords,64,8388608,23,10,9496540209,8391771,4194304007121448,9,\
 1700000000500000000,0,0,4165281169539072,9,24718429,10000,";
 
+/// The words of the snapshot of these clocks.
+const WORDS: [u64; 10] = [
+    10,
+    9_496_540_209,
+    8_391_771,
+    4_194_304_007_121_448,
+    9,
+    1_700_000_000_500_000_000,
+    0,
+    0,
+    4_165_281_169_539_072,
+    9,
+];
+
 /// The numbers of a discipline, all of them different.
 const NUMBERS: &[u8] = b"250,8209,1,1,1700006400,-1652045498007533,6,5000,7000,10001,\
 -13107200000000,1700000000,-300,6478609796107,1152921504740785503,17553326032570810368,1700000011,\
@@ -88,24 +102,11 @@ fn continues_steered_clocks_by_fields_in_quotes(rt: HostRuntime) -> Result<(), F
 
 /// Stops the test unless a script continues the clocks of `CLOCKS` with the numbers `NUMBERS`.
 fn assert_continued(rt: &(impl Abort + AllocGlobal), script: &[u8]) -> Result<(), Fail> {
-    let start = Script::from_bytes(rt.alloc(), script)?.start;
-    let Start::Continued { clock, front } = start else {
+    let Start::Continued { clock, front } = Script::from_bytes(rt.alloc(), script)?.start else {
         return Err(Fail::from("continued clocks"));
     };
-    let words = [
-        10,
-        9_496_540_209,
-        8_391_771,
-        4_194_304_007_121_448,
-        9,
-        1_700_000_000_500_000_000,
-        0,
-        0,
-        4_165_281_169_539_072,
-        9,
-    ];
     assert_same(rt, &front, &10);
-    assert_same(rt, &clock.snapshot(front).words(), &words);
+    assert_same(rt, &clock.snapshot(front).words(), &WORDS);
     assert_same(rt, &clock.rate().frequency, &24_718_429);
     assert_same(rt, &clock.rate().tick, &10_000);
     assert_numbers(rt, clock.numbers());

@@ -7,6 +7,20 @@ use tk_script::{RowReader, Script, ScriptError, Start};
 const RUNNING: &[u8] =
     b"openwords,32,16777216,24,5,100,16777216,8388608000000000,7,1700000000000000000,3,74,1,7,0,10000";
 
+/// The words of the snapshot of these clocks.
+const WORDS: [u64; 10] = [
+    5,
+    100,
+    16_777_216,
+    8_388_608_000_000_000,
+    7,
+    1_700_000_000_000_000_000,
+    3,
+    74,
+    1,
+    7,
+];
+
 /// The first records with one number that running clocks can't have.
 const WRONG: [&[u8]; 12] = [
     // one command too many before the script
@@ -33,24 +47,11 @@ const WRONG: [&[u8]; 12] = [
 
 #[test]
 fn reads_running_clocks(rt: HostRuntime) -> Result<(), Fail> {
-    let start = Script::from_bytes(rt.alloc(), RUNNING)?.start;
-    let Start::Running { clock, front } = start else {
+    let Start::Running { clock, front } = Script::from_bytes(rt.alloc(), RUNNING)?.start else {
         return Err(Fail::from("running clocks"));
     };
-    let words = [
-        5,
-        100,
-        16_777_216,
-        8_388_608_000_000_000,
-        7,
-        1_700_000_000_000_000_000,
-        3,
-        74,
-        1,
-        7,
-    ];
     assert_same(&rt, &front, &5);
-    assert_same(&rt, &clock.snapshot(front).words(), &words);
+    assert_same(&rt, &clock.snapshot(front).words(), &WORDS);
     assert_same(&rt, &clock.frequency(), &0);
     assert_same(&rt, &clock.tick(), &10_000);
     Ok(())
