@@ -88,18 +88,26 @@ fn assert_fault(rt: &(impl Abort + AllocGlobal), record: &[u8], fault: ScriptErr
 }
 
 #[test]
-fn refuses_an_expected_value_that_is_no_number(rt: HostRuntime) {
+fn refuses_faulty_reads_and_requests(rt: HostRuntime) {
     let (word, fields) = (ScriptError::Word { row: 2 }, ScriptError::Fields { row: 2 });
     let number = ScriptError::Number { row: 2 };
     for (record, fault) in [
-        (b"get,7,tai,".as_slice(), number),
+        (b"get,7".as_slice(), fields),
+        (b"get,7,tai,1,2", fields),
+        (b"get,7,tai,", number),
         (b"get,7,tai,-1", number),
         (b"get,7,tai,1.000000000", number),
         (b"get,7,tai,18446744073709551616", number),
+        // the reading comes before the clock, and the clock before the expected value
         (b"get,x,foo,y", number),
         (b"get,7,foo,y", word),
-        (b"get,7,tai,1,2", fields),
-        (b"get,7", fields),
+        (b"adjtimex,9,0,0,0,0,0,0,0,0,0", fields),
+        (b"adjtimex,9,0,0,0,0,0,0,0,0,0,0,0", fields),
+        (b"adjtimex,-1,0,0,0,0,0,0,0,0,0,0", number),
+        (b"adjtimex,9,4294967296,0,0,0,0,0,0,0,0,0", number),
+        (b"adjtimex,9,0,0,0,0,0,-1,0,0,0,0", number),
+        (b"adjtimex,9,0,9223372036854775808,0,0,0,0,0,0,0,0", number),
+        (b"adjtimex,9,0,0,0,0,0,0,0,0,0,", number),
     ] {
         assert_fault(&rt, record, fault);
     }
@@ -167,23 +175,4 @@ fn reads_a_request(rt: HostRuntime) {
     let quoted = b"\"adjtimex\",9,8245,-100000000,-9223372036854775808,3,4,4294967295,6,10000,\
         -8,\"9223372036854775807\"";
     assert_row(&rt, quoted, request());
-}
-
-#[test]
-fn refuses_a_faulty_request(rt: HostRuntime) {
-    let (fields, number) = (
-        ScriptError::Fields { row: 2 },
-        ScriptError::Number { row: 2 },
-    );
-    for (record, fault) in [
-        (b"adjtimex,9,0,0,0,0,0,0,0,0,0".as_slice(), fields),
-        (b"adjtimex,9,0,0,0,0,0,0,0,0,0,0,0", fields),
-        (b"adjtimex,-1,0,0,0,0,0,0,0,0,0,0", number),
-        (b"adjtimex,9,4294967296,0,0,0,0,0,0,0,0,0", number),
-        (b"adjtimex,9,0,0,0,0,0,-1,0,0,0,0", number),
-        (b"adjtimex,9,0,9223372036854775808,0,0,0,0,0,0,0,0", number),
-        (b"adjtimex,9,0,0,0,0,0,0,0,0,0,", number),
-    ] {
-        assert_fault(&rt, record, fault);
-    }
 }

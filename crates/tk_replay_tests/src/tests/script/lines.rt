@@ -39,24 +39,18 @@ fn writes_each_line(rt: HostRuntime) -> Result<(), Fail> {
 
 #[test]
 fn writes_seconds_of_each_length(rt: HostRuntime) -> Result<(), Fail> {
-    let mut out = Vec::new(rt.alloc());
-    for (sec, nsec) in [
-        (9_999, 100_000_000),
-        (10_000, 10_203_040),
-        (999_999_999, 999_999_999),
-        (1_000_000_000, 5),
-        (1_020_304_050, 60_708_090),
-        (9_223_372_035, 999_999_999),
+    for (sec, nsec, line) in [
+        (9_999, 100_000_000, b"ok,7,9999.100000000\n".as_slice()),
+        (10_000, 10_203_040, b"ok,7,10000.010203040\n"),
+        (999_999_999, 999_999_999, b"ok,7,999999999.999999999\n"),
+        (1_000_000_000, 5, b"ok,7,1000000000.000000005\n"),
+        (1_020_304_050, 60_708_090, b"ok,7,1020304050.060708090\n"),
+        (9_223_372_035, 999_999_999, b"ok,7,9223372035.999999999\n"),
     ] {
+        let mut out = Vec::new(rt.alloc());
         line_ok(&mut out, 7, Timespec { sec, nsec })?;
+        assert_same(&rt, &out.as_slice(), &line);
     }
-    let want = b"ok,7,9999.100000000\n\
-        ok,7,10000.010203040\n\
-        ok,7,999999999.999999999\n\
-        ok,7,1000000000.000000005\n\
-        ok,7,1020304050.060708090\n\
-        ok,7,9223372035.999999999\n";
-    assert_same(&rt, &out.as_slice(), &want.as_slice());
     Ok(())
 }
 
