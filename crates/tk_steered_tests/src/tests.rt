@@ -1,5 +1,6 @@
 //! Compares steered clocks that have a journal with `SteeredClock`, which has none.
 
+mod both;
 mod memory;
 mod orders;
 mod running;

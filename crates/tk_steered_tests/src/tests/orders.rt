@@ -1,13 +1,11 @@
-use super::{CALLER, amount, assert_alike, assert_replays, assert_same, offset, opened, plain};
-use std::alloc::Allocator;
+use super::both::Both;
+use super::{CALLER, amount, assert_replays, assert_same, offset, opened};
 use std::process::Abort;
 use tk_clock::Command;
 use tk_ntp::{
     ADJ_ADJTIME, ADJ_FREQUENCY, ADJ_OFFSET, ADJ_SETOFFSET, ADJ_STATUS, ADJ_TAI, ADJ_TICK, STA_DEL,
-    STA_INS, SteeredClock, Timex,
+    STA_INS, Timex,
 };
-use tk_steered::Steered;
-use tk_test_support::next_random;
 
 /// Returns one of some requests, some of which have a fault.
 fn request(seed: u64) -> Timex {
@@ -56,73 +54,50 @@ fn command(seed: u64) -> Command {
     }
 }
 
-/// Gives both clocks an order at a reading, and compares the answers.
-pub(super) fn give<A: Allocator + Copy>(
-    rt: &impl Abort,
-    steered: &mut Steered<A>,
-    plain: &mut SteeredClock,
-    reading: u64,
-    seed: u64,
-) {
+/// Gives both clocks the order of their random number at a reading.
+pub(super) fn give(rt: &impl Abort, both: &mut Both, reading: u64) {
+    let seed = both.seed;
     match seed >> 50 & 7 {
-        0 => {
-            let found = steered.advance(CALLER, reading);
-            assert_same(rt, &found, &plain.advance(reading));
-        }
-        1 => {
-            let found = steered.advance_late(CALLER, reading);
-            assert_same(rt, &found, &plain.advance_late(reading));
-        }
-        2 | 3 => {
-            let asked = request(seed);
-            let found = steered.adjtimex(CALLER, reading, &asked);
-            assert_same(rt, &found, &plain.adjtimex(reading, &asked));
-        }
-        _ => {
-            let found = steered.apply(CALLER, reading, command(seed));
-            let wanted = match plain.apply(reading, command(seed)) {
-                Ok(()) => Ok(steered.keeper().len() as u64),
-                Err(refusal) => Err(refusal),
-            };
-            assert_same(rt, &found, &wanted);
-        }
+        0 => both.advance(rt, reading),
+        1 => both.advance_late(rt, reading),
+        2 | 3 => both.adjtimex(rt, reading, &request(seed)),
+        _ => both.apply(rt, reading, command(seed)),
     }
 }
 
 #[test]
 fn any_orders_leave_the_clocks_of_their_journal(rt: HostRuntime) {
-    let mut steered = opened(&rt, rt.alloc());
-    let mut plain = plain(&rt);
-    let (mut seed, mut reading) = (0x9e37_79b9_7f4a_7c15, 0_u64);
+    let mut both = Both::opened(&rt, rt.alloc());
     for _ in 0..3_000 {
-        seed = next_random(seed);
-        reading = reading.wrapping_add(seed % 3_000_000_000);
+        let reading = both.draw(3_000_000_000);
         // some readings are behind
-        let at = reading.saturating_sub(if seed >> 60 == 0 { 4_000_000_000 } else { 0 });
-        give(&rt, &mut steered, &mut plain, at, seed);
-        assert_alike(&rt, &steered.clock(), &plain);
+        let back = if both.seed >> 60 == 0 {
+            4_000_000_000
+        } else {
+            0
+        };
+        give(&rt, &mut both, reading.saturating_sub(back));
+        both.assert_alike(&rt);
     }
-    assert_replays(&rt, &steered);
+    assert_replays(&rt, &both.steered);
 }
 
 #[test]
 fn a_day_that_was_missed_is_entered(rt: HostRuntime) {
-    let mut steered = opened(&rt, rt.alloc());
-    let mut plain = plain(&rt);
+    let mut both = Both::opened(&rt, rt.alloc());
     let asked = Timex {
         modes: ADJ_STATUS,
         status: STA_INS,
         ..Timex::default()
     };
     for asked in [asked, offset(100_000)] {
-        let found = steered.adjtimex(CALLER, 1_000, &asked);
-        assert_same(&rt, &found, &plain.adjtimex(1_000, &asked));
+        both.adjtimex(&rt, 1_000, &asked);
     }
     let day = 86_400_000_000_000;
-    assert_same(&rt, &steered.advance(CALLER, day), &Ok(()));
-    assert_same(&rt, &plain.advance(day), &Ok(()));
-    assert_alike(&rt, &steered.clock(), &plain);
-    assert_replays(&rt, &steered);
+    assert_same(&rt, &both.steered.advance(CALLER, day), &Ok(()));
+    assert_same(&rt, &both.plain.advance(day), &Ok(()));
+    both.assert_alike(&rt);
+    assert_replays(&rt, &both.steered);
 }
 
 #[test]
