@@ -7,6 +7,9 @@ use std::alloc::Global;
 use std::thread::Threads;
 use std::time::{Clock as Hours, Instant};
 
+/// The number of turns of a job of at most some milliseconds whose time is printed.
+pub(crate) const TURNS: u32 = 20;
+
 /// The number of turns of a job whose time isn't printed.
 const CHECKED_TURNS: u32 = 2;
 

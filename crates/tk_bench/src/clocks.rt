@@ -1,6 +1,6 @@
 //! Times reads of a snapshot, and updates of running clocks.
 
-use crate::bench::{Bench, Job, Unit};
+use crate::bench::{Bench, Job, TURNS, Unit};
 use crate::digest::of_snapshot;
 use crate::inputs::OPENED_TIME;
 use anyhow::{Context, Result};
@@ -11,8 +11,6 @@ use tk_counter::CounterDesc;
 
 /// The number of calls in a turn.
 const CALLS: u64 = 1_000_000;
-
-const TURNS: u32 = 20;
 
 /// Reads a clock at readings in no order, up to a mask.
 #[derive(Drop)]

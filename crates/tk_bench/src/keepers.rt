@@ -16,8 +16,8 @@ const COMMANDS: u64 = 10_000_000;
 /// The most entries that a journal lists.
 const LISTED: u64 = LISTED_LIMIT as u64;
 
-/// The entries that a full journal keeps in a fold: three quarters.
-const KEPT: u64 = 786_432;
+/// The entries that a full journal keeps in a fold.
+const KEPT: u64 = LISTED / 4 * 3;
 
 const READS: u64 = 100_000;
 
@@ -99,14 +99,13 @@ struct Past {
 
 impl Job for Past {
     fn turn<R: Threads + Hours + Sync>(&mut self, _rt: &R) -> Result<()> {
-        let mut sum: u64 = 0;
+        self.sum = 0;
         for step in 0..READS {
             let front = step.wrapping_mul(0x9e37_79b9_7f4a_7c15) >> 44;
             if let Ok(snapshot) = self.keeper.snapshot_at(front) {
-                sum = sum.wrapping_add(snapshot.last() ^ snapshot.frac());
+                self.sum = self.sum.wrapping_add(snapshot.last() ^ snapshot.frac());
             }
         }
-        self.sum = sum;
         Ok(())
     }
 

@@ -1,6 +1,6 @@
 //! Times calls on steered clocks: requests, seconds that begin, and commands in between.
 
-use crate::bench::{Bench, Job, Unit};
+use crate::bench::{Bench, Job, TURNS, Unit};
 use crate::digest::of_snapshot;
 use crate::inputs::OPENED_TIME;
 use anyhow::{Context, Result};
@@ -28,8 +28,6 @@ const DAY: u64 = 86_400_000_000_000;
 
 /// The number of parts of a second that phases are divided into.
 const HZ: u32 = 1_000;
-
-const TURNS: u32 = 20;
 
 /// Names the call that brings the clocks forward.
 #[derive(Clone, Copy)]
