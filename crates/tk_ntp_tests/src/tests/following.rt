@@ -7,37 +7,27 @@ use std::test::Fail;
 use tk_clock::{Command, Refusal};
 use tk_ntp::{Change, Leap, SteeredClock, TimeState, Timex};
 
-/// The state that a step leaves.
-#[derive(Clone, Copy)]
-struct Left {
-    /// The multiplier.
-    mult: u32,
-    /// REALTIME minus MONOTONIC, in seconds.
-    real_offset_sec: u64,
-    /// The TAI offset, in seconds.
+/// Checks the state that a command at a reading leaves: the TAI offset in seconds, from which
+/// REALTIME minus MONOTONIC follows; the multiplier; the reading at which the next second begins,
+/// the last one of the day; and the lag, in two words.
+fn leaves(
+    rt: &impl Abort,
+    steered: &SteeredClock,
+    reading: u64,
     tai: u32,
-    /// The second that begins next, since 1970.
-    next: u64,
-    /// The reading at which it begins.
-    at: u64,
-    /// The reading of the last account.
-    mark: u64,
-    /// The lag, in two words.
+    mult: u32,
+    begins_at: u64,
     lag: (u64, u64),
-}
-
-/// Checks the state.
-fn leaves(rt: &impl Abort, steered: &SteeredClock, left: Left) {
+) {
     let now = steered.snapshot(0);
+    assert_eq!(rt; (now.tai(), now.mult()), (tai, mult));
+    let real_offset = 1_483_228_798u64.wrapping_sub(u64::from(tai));
+    assert_eq!(rt; now.real_offset() / 1_000_000_000, real_offset);
     let numbers = steered.numbers();
-    assert_eq!(rt; now.mult(), left.mult);
-    assert_eq!(rt; now.real_offset() / 1_000_000_000, left.real_offset_sec);
-    assert_eq!(rt; now.tai(), left.tai);
-    assert_eq!(rt; numbers.next, left.next);
-    assert_eq!(rt; steered.next_second(), Some(left.at));
-    assert_eq!(rt; numbers.mark, left.mark);
-    let lag = numbers.steering.lag;
-    assert_eq!(rt; (lag.high, lag.low), left.lag);
+    assert_eq!(rt; (numbers.next, numbers.mark), (1_483_228_800, reading));
+    assert_eq!(rt; steered.next_second(), Some(begins_at));
+    let found = numbers.steering.lag;
+    assert_eq!(rt; (found.high, found.low), lag);
 }
 
 /// Opens clocks of a counter of 1 GHz at the reading 0, two seconds before a day ends.
@@ -75,6 +65,13 @@ fn frequency(frequency: i64) -> Change {
     }
 }
 
+/// Gives the clocks the frequency that they need.
+fn steers(rt: &impl Abort, steered: &mut SteeredClock, reading: u64, needed: i64) {
+    assert_eq!(rt; steered.needed_change(), frequency(needed));
+    let cmd = Command::Freq(needed);
+    assert_eq!(rt; steered.follow_command(reading, cmd), Ok(()));
+}
+
 #[test]
 fn clocks_follow_commands_through_an_inserted_second(rt: HostRuntime) -> Result<(), Fail> {
     let mut steered = announced(&rt)?;
@@ -85,42 +82,18 @@ fn clocks_follow_commands_through_an_inserted_second(rt: HostRuntime) -> Result<
         steered.follow_command(1_000_500_000, Command::Update),
         Ok(())
     );
-    assert_eq!(rt; steered.needed_change(), frequency(4_326_471));
-    let faster = Command::Freq(4_326_471);
-    assert_eq!(rt; steered.follow_command(1_000_502_000, faster), Ok(()));
-    leaves(
-        &rt,
-        &steered,
-        Left {
-            mult: 8_389_161,
-            real_offset_sec: 1_483_228_798,
-            tai: 0,
-            next: 1_483_228_800,
-            at: 1_999_934_115,
-            mark: 1_000_502_000,
-            lag: (1_152_921_569_092_536_165, 13_504_395_326_391_320_576),
-        },
-    );
+    steers(&rt, &mut steered, 1_000_502_000, 4_326_471);
+    let (tai, mult, begins_at) = (0, 8_389_161, 1_999_934_115);
+    let lag = (1_152_921_569_092_536_165, 13_504_395_326_391_320_576);
+    leaves(&rt, &steered, 1_000_502_000, tai, mult, begins_at, lag);
     let Some(leap) = steered.begin_alone(2_000_300_000) else {
         return Err(Fail::from("the second is due"));
     };
     assert_eq!(rt; steered.follow_leap(2_000_301_000, leap), Ok(()));
-    assert_eq!(rt; steered.needed_change(), frequency(2_169_291));
-    let slower = Command::Freq(2_169_291);
-    assert_eq!(rt; steered.follow_command(2_000_303_000, slower), Ok(()));
-    leaves(
-        &rt,
-        &steered,
-        Left {
-            mult: 8_388_885,
-            real_offset_sec: 1_483_228_797,
-            tai: 1,
-            next: 1_483_228_800,
-            at: 2_999_901_083,
-            mark: 2_000_303_000,
-            lag: (1_152_921_504_803_319_941, 15_706_039_817_663_938_560),
-        },
-    );
+    steers(&rt, &mut steered, 2_000_303_000, 2_169_291);
+    let (tai, mult, begins_at) = (1, 8_388_885, 2_999_901_083);
+    let lag = (1_152_921_504_803_319_941, 15_706_039_817_663_938_560);
+    leaves(&rt, &steered, 2_000_303_000, tai, mult, begins_at, lag);
     Ok(())
 }
 

@@ -46,30 +46,26 @@ fn a_frequency_is_clamped(rt: HostRuntime) -> Result<(), Fail> {
 #[test]
 fn a_phase_goes_on_under_another_tick(rt: HostRuntime) -> Result<(), Fail> {
     let mut clock = Clock::following(10_000_000)?;
-    clock.pass(1_700_000_004);
-    let ticked = Timex {
-        tick: 10_100,
-        ..request(0x4000)
-    };
-    let expected = Timex {
-        offset: 9_844_663,
-        tick: 10_100,
-        ..synchronized(0x4000, 1_700_000_004, 500_136_017, 8193, 2000)
-    };
-    clock.replies(&rt, 500_136_017, &ticked, TimeState::Ok, expected)?;
-    clock.pass(1_700_000_014);
-    let slower = Timex {
-        freq: -6_553_600,
-        tick: 9900,
-        ..request(0x4002)
-    };
-    let expected = Timex {
-        offset: 9_466_795,
-        freq: -6_553_600,
-        tick: 9900,
-        ..synchronized(0x4002, 1_700_000_014, 600_514_511, 8193, 7000)
-    };
-    clock.replies(&rt, 600_514_511, &slower, TimeState::Ok, expected)?;
+    for (passed, nsec, modes, freq, tick, offset) in [
+        (4u32, 500_136_017, 0x4000, 0, 10_100, 9_844_663),
+        (14, 600_514_511, 0x4002, -6_553_600, 9900, 9_466_795),
+    ] {
+        let sec = 1_700_000_000u32.wrapping_add(passed);
+        let maxerror = i64::from(passed) * 500;
+        clock.pass(sec);
+        let asked = Timex {
+            freq,
+            tick,
+            ..request(modes)
+        };
+        let expected = Timex {
+            offset,
+            freq,
+            tick,
+            ..synchronized(modes, sec, i64::from(nsec), 8193, maxerror)
+        };
+        clock.replies(&rt, nsec, &asked, TimeState::Ok, expected)?;
+    }
     assert_eq!(rt; clock.ntp.tick(), 9900);
     Ok(())
 }
@@ -104,14 +100,9 @@ fn adjtime_gives_500_us_in_a_second(rt: HostRuntime) -> Result<(), Fail> {
     let mut clock = Clock::new(1_700_000_000)?;
     let shot = with_offset(0x8001, 1200);
     assert_eq!(rt; clock.reply(500_000_000, &shot)?.timex.offset, 0);
-    // a second of 10^9 ns, and longer by 0, then by 500, 500, 200 and 0 us
-    for (sec, left, length) in [
-        (1_700_000_000, 1200, 4_294_967_296_000_000_000),
-        (1_700_000_001, 700, 4_297_114_779_648_000_000),
-        (1_700_000_002, 200, 4_297_114_779_648_000_000),
-        (1_700_000_003, 0, 4_295_826_289_459_200_000),
-        (1_700_000_004, 0, 4_294_967_296_000_000_000),
-    ] {
+    let mut sec = 1_700_000_000u32;
+    // a second of 10^9 ns is longer by the us that it gives
+    for (given, left) in [(0u32, 1200), (500, 700), (500, 200), (200, 0), (0, 0)] {
         clock.pass(sec);
         let expected = Timex {
             offset: left,
@@ -119,7 +110,9 @@ fn adjtime_gives_500_us_in_a_second(rt: HostRuntime) -> Result<(), Fail> {
         };
         let single = request(0xa001);
         clock.replies(&rt, 500_249_981, &single, TimeState::Error, expected)?;
-        assert_eq!(rt; clock.ntp.second_length(), length);
+        let length = (1_000_000_000 + u64::from(given) * 1_000) << 32;
+        assert_eq!(rt; clock.ntp.second_length().unsigned_abs(), length);
+        sec = sec.wrapping_add(1);
     }
     Ok(())
 }
