@@ -38,58 +38,54 @@ fn kernel_halving(mult: u64, shift: u32) -> (u64, u32) {
     (mult, shift)
 }
 
-/// A row contains hz, seconds, mult and shift. A C copy of the arithmetic of these two functions,
-/// built by gcc, made the values.
-const FROM_KERNEL: [(u32, u32, u32, u32); 12] = [
-    (1, 1, 2_000_000_000, 1),
-    (1, 600, 2_000_000_000, 1),
-    (32_768, 600, 2_000_000_000, 16),
-    (1_193_182, 600, 3_515_225_674, 22),
-    (3_579_545, 4, 2_343_484_437, 23),
-    (14_318_180, 300, 1_171_742_219, 24),
-    (19_200_000, 600, 873_813_333, 24),
-    (24_000_000, 600, 699_050_667, 24),
-    (1_000_000_000, 4, 2_147_483_648, 31),
-    (1_050_000_000, 1, 2_045_222_522, 31),
-    (4_294_967_295, 1, 1_000_000_000, 32),
-    (4_294_967_295, 600, 3_906_250, 24),
+/// A row contains the scale, the rate, the seconds, the mult and the shift. A C copy of the
+/// arithmetic of these two functions, built by gcc, made the values; a copy in Python made those in
+/// kHz, too.
+const FROM_KERNEL: [(u32, u32, u32, u32, u32); 24] = [
+    (HERTZ, 1, 1, 2_000_000_000, 1),
+    (HERTZ, 1, 600, 2_000_000_000, 1),
+    (HERTZ, 32_768, 600, 2_000_000_000, 16),
+    (HERTZ, 1_193_182, 600, 3_515_225_674, 22),
+    (HERTZ, 3_579_545, 4, 2_343_484_437, 23),
+    (HERTZ, 14_318_180, 300, 1_171_742_219, 24),
+    (HERTZ, 19_200_000, 600, 873_813_333, 24),
+    (HERTZ, 24_000_000, 600, 699_050_667, 24),
+    (HERTZ, 1_000_000_000, 4, 2_147_483_648, 31),
+    (HERTZ, 1_050_000_000, 1, 2_045_222_522, 31),
+    (HERTZ, 4_294_967_295, 1, 1_000_000_000, 32),
+    (HERTZ, 4_294_967_295, 600, 3_906_250, 24),
+    (KILOHERTZ, 1, 1, 2_048_000_000, 11),
+    (KILOHERTZ, 1, 600, 2_048_000_000, 11),
+    (KILOHERTZ, 3, 1, 2_730_666_667, 13),
+    (KILOHERTZ, 24_000, 600, 699_050_667, 24),
+    (KILOHERTZ, 1_050_000, 1, 2_045_222_522, 31),
+    (KILOHERTZ, 4_294_967, 600, 3_906_250, 24),
+    (KILOHERTZ, 4_294_968, 600, 3_906_249, 24),
+    (KILOHERTZ, 4_491_000, 1, 956_349_877, 32),
+    (KILOHERTZ, 4_491_000, 4, 478_174_938, 31),
+    (KILOHERTZ, 4_491_000, 600, 3_735_742, 24),
+    (KILOHERTZ, 4_294_967_295, 1, 1_000_000, 32),
+    (KILOHERTZ, 4_294_967_295, 600, 3_906, 24),
 ];
 
-/// A row contains khz, seconds, mult and shift. A copy in Python of the kernel's arithmetic, and
-/// one in C by gcc, made the values.
-const FROM_KERNEL_IN_KHZ: [(u32, u32, u32, u32); 12] = [
-    (1, 1, 2_048_000_000, 11),
-    (1, 600, 2_048_000_000, 11),
-    (3, 1, 2_730_666_667, 13),
-    (24_000, 600, 699_050_667, 24),
-    (1_050_000, 1, 2_045_222_522, 31),
-    (4_294_967, 600, 3_906_250, 24),
-    (4_294_968, 600, 3_906_249, 24),
-    (4_491_000, 1, 956_349_877, 32),
-    (4_491_000, 4, 478_174_938, 31),
-    (4_491_000, 600, 3_735_742, 24),
-    (4_294_967_295, 1, 1_000_000, 32),
-    (4_294_967_295, 600, 3_906, 24),
-];
-
-fn numbers(desc: CounterDesc) -> (u32, u32, u32) {
-    (desc.bits(), desc.mult(), desc.shift())
-}
-
-#[test]
-fn a_frequency_is_scaled_as_in_the_kernel(rt: HostRuntime) -> Result<(), Fail> {
-    for (hz, maxsec, mult, shift) in FROM_KERNEL {
-        let made = numbers(CounterDesc::from_hz(32, hz, maxsec)?);
-        assert_same_at(&rt, &hz, &made, &(32, mult, shift));
+/// Describes a counter by its rate in Hz or in kHz.
+fn described(scale: u32, bits: u32, rate: u32, maxsec: u32) -> Result<CounterDesc, DescError> {
+    if scale == HERTZ {
+        CounterDesc::from_hz(bits, rate, maxsec)
+    } else {
+        CounterDesc::from_khz(bits, rate, maxsec)
     }
-    Ok(())
 }
 
 #[test]
-fn a_rate_in_khz_is_scaled_as_in_the_kernel(rt: HostRuntime) -> Result<(), Fail> {
-    for (khz, maxsec, mult, shift) in FROM_KERNEL_IN_KHZ {
-        let made = numbers(CounterDesc::from_khz(64, khz, maxsec)?);
-        assert_same_at(&rt, &(khz, maxsec), &made, &(64, mult, shift));
+fn a_rate_is_scaled_as_in_the_kernel(rt: HostRuntime) -> Result<(), Fail> {
+    for (scale, rate, maxsec, mult, shift) in FROM_KERNEL {
+        for bits in [32, 64] {
+            let desc = described(scale, bits, rate, maxsec)?;
+            let made = (desc.bits(), desc.mult(), desc.shift());
+            let row = (scale, rate, maxsec);
+            assert_same_at(&rt, &row, &made, &(bits, mult, shift));
+        }
     }
     Ok(())
 }
@@ -111,14 +107,10 @@ fn the_bits_are_refused_before_the_rate(rt: HostRuntime) {
         (32, 24_000_000, 0, Err(DescError::Rate)),
         (32, 24_000_000, 601, Err(DescError::Rate)),
     ] {
-        let row = (bits, rate, maxsec);
-        assert_same_at(&rt, &row, &CounterDesc::from_hz(bits, rate, maxsec), &fault);
-        assert_same_at(
-            &rt,
-            &row,
-            &CounterDesc::from_khz(bits, rate, maxsec),
-            &fault,
-        );
+        for scale in [HERTZ, KILOHERTZ] {
+            let row = (scale, bits, rate, maxsec);
+            assert_same_at(&rt, &row, &described(scale, bits, rate, maxsec), &fault);
+        }
     }
 }
 
@@ -129,10 +121,8 @@ fn any_frequency_is_scaled_as_by_the_kernels_loops(rt: HostRuntime) -> Result<()
         seed = next_random(seed);
         let rate = (seed >> 32 >> (seed & 31)) as u32 | 1;
         let maxsec = 1 + (seed >> 8 & 511) as u32;
-        for (scale, desc) in [
-            (HERTZ, CounterDesc::from_hz(64, rate, maxsec)?),
-            (KILOHERTZ, CounterDesc::from_khz(64, rate, maxsec)?),
-        ] {
+        for scale in [HERTZ, KILOHERTZ] {
+            let desc = described(scale, 64, rate, maxsec)?;
             let made = Some((u64::from(desc.mult()), desc.shift()));
             let row = (scale, rate, maxsec);
             assert_same_at(&rt, &row, &made, &kernel_scale(scale, rate, maxsec));
