@@ -11,7 +11,7 @@ use std::time::{Clock as Hours, Duration, Instant};
 use tk_clock::{ClockId, Command, Timespec};
 use tk_now::{HostCounter, Look, SharedCounter, SharedTicker};
 use tk_shared::{Caller, Counter, Named, Prepared, SharedKeeper, SharedReader, prepare};
-use tk_test_support::{Effort, OPENED_TIME, Turn, nanosecond_counter};
+use tk_test_support::{Effort, OPENED_TIME, Turn, nanosecond_counter, nanoseconds};
 
 /// The number of calls of a full turn.
 const CALLS: u64 = 3_000_000;
@@ -60,8 +60,7 @@ impl Tally {
     }
 
     fn add(&mut self, time: Timespec) {
-        let seconds = time.sec.unsigned_abs().wrapping_mul(1_000_000_000);
-        let nanos = seconds.wrapping_add(u64::from(time.nsec));
+        let nanos = nanoseconds(time);
         if nanos >= self.last {
             self.kept = self.kept.wrapping_add(1);
         }

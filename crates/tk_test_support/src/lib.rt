@@ -6,6 +6,8 @@
 //! | `nanosecond_counter`, `OPENED_TIME`, `OPENED_REAL` | the clocks that most tests open |
 //! | `OPENED_WORDS` | the words of their first snapshot |
 //! | `CLOCKS` | the names of all clocks |
+//! | `nanoseconds` | the nanoseconds of a clock's time |
+//! | `RisingTimes` | counts the times of several threads that are below an earlier one |
 //! | `next_random` | the next number of a random generator |
 //! | `mixed_up` | finds two values of a list whose comparison is wrong |
 //! | `PageDesk`, `opened_page` | clocks with the publisher of their journal, on a page |
@@ -26,6 +28,7 @@ mod page_desk;
 mod random;
 mod running;
 mod steps;
+mod times;
 mod turn;
 
 pub use clocks::{CLOCKS, OPENED_REAL, OPENED_TIME, OPENED_WORDS, nanosecond_counter};
@@ -35,4 +38,5 @@ pub use page_desk::{PageDesk, opened_page};
 pub use random::next_random;
 pub use running::{Job, run_jobs};
 pub use steps::{STEP, reading_of, weighed, weight};
+pub use times::{RisingTimes, nanoseconds};
 pub use turn::{Effort, IN_MILLISECONDS, Turn};

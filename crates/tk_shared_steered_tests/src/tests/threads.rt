@@ -12,10 +12,11 @@ use std::sync::Wait;
 use std::sync::atomic::{AtomicU64, Ordering};
 use std::test::Fail;
 use std::thread::{self, Threads};
-use tk_clock::{ClockId, Snapshot, Timespec};
+use tk_clock::{ClockId, Snapshot};
 use tk_now::SharedTicker;
 use tk_shared::{Caller, Counter, Named, NowFault, Prepared, SharedKeeper, SharedReader};
 use tk_shared_steered::SharedSteering;
+use tk_test_support::RisingTimes;
 
 /// The cycles from one reading to the next. A cycle is a nanosecond.
 const STEP: u64 = 50_000;
@@ -30,35 +31,19 @@ const TAI_OFFSET: u64 = 1_483_228_798_000_000_000;
 #[derive(Drop)]
 struct Board {
     counter: SharedTicker,
-    /// The greatest answer of any thread, in nanoseconds.
-    greatest: AtomicU64,
+    /// The answers of all threads. A snapshot in which TAI has leapt is a fault, and a call that
+    /// failed.
+    times: RisingTimes,
     /// 0 while the owner works.
     ended: AtomicU64,
-    /// The number of answers below an earlier one, of snapshots in which TAI has leapt, and of
-    /// calls that failed.
-    faults: AtomicU64,
 }
 
 impl Board {
-    fn fails(&self) {
-        self.faults.fetch_add(1, Ordering::SeqCst);
-    }
-
-    /// Records an answer, and whether it is below one that some thread had when the call began.
-    fn notes(&self, before: u64, time: Timespec) {
-        let seconds = time.sec.unsigned_abs().wrapping_mul(1_000_000_000);
-        let answer = seconds.wrapping_add(u64::from(time.nsec));
-        if answer < before {
-            self.fails();
-        }
-        self.greatest.fetch_max(answer, Ordering::SeqCst);
-    }
-
     /// Records whether TAI has leapt in a snapshot.
     fn tests(&self, snapshot: Snapshot) {
         let seconds = u64::from(snapshot.tai()).wrapping_mul(1_000_000_000);
         if snapshot.real_offset().wrapping_add(seconds) != TAI_OFFSET {
-            self.fails();
+            self.times.fail();
         }
     }
 }
@@ -76,7 +61,7 @@ fn owns<L: Named, C: Counter, R: Wait>(
             Ok(true) => seconds = seconds.wrapping_add(1),
             Ok(false) => thread::yield_now(),
             Err(_) => {
-                board.fails();
+                board.times.fail();
                 break;
             }
         }
@@ -115,15 +100,15 @@ fn asks<L: Named, C: Counter, R: Wait>(
     board: &Board,
 ) {
     let clock = ClockId::Monotonic;
-    let before = board.greatest.load(Ordering::SeqCst);
+    let before = board.times.greatest();
     match keeper.now(rt, caller, &board.counter, clock) {
-        Ok(time) => board.notes(before, time),
-        Err(_) => board.fails(),
+        Ok(time) => board.times.note(before, time),
+        Err(_) => board.times.fail(),
     }
-    let before = board.greatest.load(Ordering::SeqCst);
+    let before = board.times.greatest();
     match keeper.now_fast(caller, &board.counter, clock) {
-        Ok(time) => board.notes(before, time),
-        Err(NowFault::Refused(_)) => board.fails(),
+        Ok(time) => board.times.note(before, time),
+        Err(NowFault::Refused(_)) => board.times.fail(),
         Err(_) => {}
     }
 }
@@ -132,9 +117,8 @@ fn asks<L: Named, C: Counter, R: Wait>(
 fn readers_see_no_time_fall_and_no_tai_leap(rt: HostRuntime) -> Result<(), Fail> {
     let board = Board {
         counter: SharedTicker::new(0, STEP),
-        greatest: AtomicU64::new(0),
+        times: RisingTimes::new(),
         ended: AtomicU64::new(0),
-        faults: AtomicU64::new(0),
     };
     let counter = SharedReader::new(rt.alloc(), &board.counter)?;
     let prepared = ready(&rt, rt.alloc(), counter, 3)?;
@@ -170,10 +154,6 @@ fn all_act<L: Named + Send + Sync, C: Counter, R: Threads + Wait + Abort + Sync>
             )
         },
     );
-    assert_same(
-        rt,
-        &(seconds, board.faults.load(Ordering::SeqCst)),
-        &(SECONDS, 0),
-    );
+    assert_same(rt, &(seconds, board.times.faults()), &(SECONDS, 0));
     Ok(())
 }

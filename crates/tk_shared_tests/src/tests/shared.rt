@@ -31,12 +31,6 @@ fn time(sec: i64, nsec: u32) -> Timespec {
     Timespec { sec, nsec }
 }
 
-/// A clock's time in nanoseconds.
-fn nanoseconds(time: Timespec) -> u64 {
-    let seconds = time.sec.unsigned_abs().wrapping_mul(1_000_000_000);
-    seconds.wrapping_add(u64::from(time.nsec))
-}
-
 /// Prepares a keeper for this number of callers, with no capacity for commands yet.
 fn ready<C: Counter, R: Wait>(
     rt: &R,

@@ -3,7 +3,7 @@
 ghost use Rattle.std.specs.Prelude.{◌≡◌};
 ghost use Rattle.tk_shared.specs.Opening.{IsNamed};
 
-use super::{assert_same, commanded, nanoseconds, opened, ready_on, time};
+use super::{assert_same, commanded, opened, ready_on, time};
 use std::alloc::Global;
 use std::marker::Brand;
 use std::process::Abort;
@@ -15,6 +15,7 @@ use tk_clock::{ClockId, Command, ReadError, Refusal, Timespec};
 use tk_counter::CounterDesc;
 use tk_now::SharedTicker;
 use tk_shared::{Caller, Counter, Named, NowFault, Prepared, SharedKeeper, SharedReader};
+use tk_test_support::RisingTimes;
 
 /// The number of answers of each of the four threads: 10,000,000 in all.
 const ANSWERS: u64 = 2_500_000;
@@ -32,27 +33,10 @@ const START: u64 = (1 << 48) - 5_000_000 * STEP;
 #[derive(Drop)]
 struct Board {
     counter: SharedTicker,
-    /// The greatest answer of any thread, in nanoseconds.
-    greatest: AtomicU64,
+    /// The answers of all threads. A refusal that no thread may get is a fault.
+    times: RisingTimes,
     /// The number of threads that still ask.
     asking: AtomicU64,
-    /// The number of answers below an earlier one, plus the number of refusals that no thread may
-    /// get.
-    faults: AtomicU64,
-}
-
-impl Board {
-    fn fails(&self) {
-        self.faults.fetch_add(1, Ordering::SeqCst);
-    }
-
-    /// Records an answer, and whether it is below one that some thread had when the call began.
-    fn notes(&self, before: u64, answer: u64) {
-        if answer < before {
-            self.fails();
-        }
-        self.greatest.fetch_max(answer, Ordering::SeqCst);
-    }
 }
 
 /// The callers 0 and 1 ask by the page, 2 and 3 by the latch, and 4 and 5 give commands.
@@ -78,11 +62,11 @@ fn asks<L: Named, C: Counter, R: Wait>(
 ) {
     let mut answers = 0u64;
     for _ in rt.forever() {
-        let before = board.greatest.load(Ordering::SeqCst);
+        let before = board.times.greatest();
         match asked(rt, keeper, caller, &board.counter) {
-            Ok(Some(time)) => board.notes(before, nanoseconds(time)),
+            Ok(Some(time)) => board.times.note(before, time),
             Ok(None) => continue,
-            Err(_) => board.fails(),
+            Err(_) => board.times.fail(),
         }
         answers = answers.wrapping_add(1);
         if answers == ANSWERS {
@@ -124,7 +108,7 @@ fn gives_commands<L: Named, C: Counter, R: Wait>(
         let cmd = command_of(turn);
         if let Err(refusal) = commanded(rt, keeper, caller, cmd) {
             if !matches!(refusal, Refusal::Asleep | Refusal::Awake) {
-                board.fails();
+                board.times.fail();
             }
         }
         if turn % 1_024 == 0 {
@@ -153,9 +137,8 @@ fn command_of(turn: u64) -> Command {
 fn no_answer_is_below_an_earlier_one(rt: HostRuntime) -> Result<(), Fail> {
     let board = Board {
         counter: SharedTicker::new(START, STEP),
-        greatest: AtomicU64::new(0),
+        times: RisingTimes::new(),
         asking: AtomicU64::new(4),
-        faults: AtomicU64::new(0),
     };
     let desc = CounterDesc::new(48, 16_777_216, 24)?;
     let counter = SharedReader::new(rt.alloc(), &board.counter)?;
@@ -191,7 +174,7 @@ fn four_play<L: Named + Send + Sync, C: Counter, R: Threads + Wait + Sync>(
     board: &Board,
 ) {
     let (Some(first), Some(second)) = (last_two(&mut callers), last_two(&mut callers)) else {
-        board.fails();
+        board.times.fail();
         return;
     };
     let (one, two) = first;
@@ -219,6 +202,6 @@ fn all_play<L: Named + Send + Sync, C: Counter, R: Threads + Wait + Abort + Sync
         move || two_play(rt, keeper, one, two, board),
         move || four_play(rt, keeper, callers, board),
     );
-    assert_same(rt, &board.faults.load(Ordering::SeqCst), &0);
+    assert_same(rt, &board.times.faults(), &0);
     Ok(())
 }

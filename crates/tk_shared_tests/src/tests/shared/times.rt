@@ -2,7 +2,7 @@
 ghost use Rattle.std.specs.Prelude.{◌≡◌};
 ghost use Rattle.tk_shared.specs.Opening.{IsNamed};
 
-use super::{assert_same, commanded, nanoseconds, open_two, ready_on, time};
+use super::{assert_same, commanded, open_two, ready_on, time};
 use std::alloc::Global;
 use std::marker::Brand;
 use std::process::Abort;
@@ -13,6 +13,7 @@ use tk_clock::{ClockId, Command, ReadError, Refusal, Timespec};
 use tk_counter::CounterDesc;
 use tk_now::{HostCounter, SharedCounter, SharedTicker};
 use tk_shared::{Caller, Counter, Named, NowFault, Prepared, SharedKeeper, SharedReader};
+use tk_test_support::nanoseconds;
 
 /// The action at a reading, and its result.
 #[derive(Clone, Copy)]
