@@ -8,9 +8,8 @@ use std::marker::Brand;
 use std::process::Abort;
 use std::sync::Wait;
 use std::test::Fail;
-use tk_clock::{Command, Refusal, Snapshot};
-use tk_ntp::SteeredClock;
-use tk_shared::{Named, Prepared, Ticker};
+use tk_clock::{Command, Refusal};
+use tk_shared::{Caller, Named, Prepared, SharedKeeper, Ticker};
 use tk_shared_steered::{SharedSteering, SteeringFault};
 
 /// The cycles from one reading of the counter to the next.
@@ -23,116 +22,128 @@ const BEGUN: [bool; 12] = [
     false, true, false, true, true, false, true, true, false, true, false, true,
 ];
 
-/// The state after some commands, past the inserted second.
+/// A keeper with all its callers.
+type Opened<L> = (SharedKeeper<L, Ticker>, Vec<Caller<L>>);
+
+/// The actions of the callers of a keeper.
 #[derive(Clone, Copy)]
-struct Left {
-    /// The number of commands. The counter was read once for each.
-    front: u64,
-    /// The multiplier.
-    mult: u32,
-    /// MONOTONIC at the last command, in seconds and in `2^-23` ns below them.
-    sec: u64,
-    frac: u64,
-    /// The second of REALTIME that begins next.
-    next: u64,
-    /// The lag, in two words.
-    lag: (u64, u64),
+enum Deed {
+    Begin,
+    Advance,
+    Meet,
+    Fail,
 }
 
-/// Checks a snapshot and the clocks with their discipline.
-fn leaves(rt: &impl Abort, now: Snapshot, clock: &SteeredClock, left: Left) {
-    let last = left.front.wrapping_mul(STEP);
-    assert_same(rt, &(now.front(), now.last()), &(left.front, last));
-    let monotonic = (now.mult(), now.sec(), now.frac());
-    assert_same(rt, &monotonic, &(left.mult, left.sec, left.frac));
-    let offsets = (now.real_offset(), now.tai());
-    assert_same(rt, &offsets, &(1_483_228_797_000_000_000, 1));
-    let numbers = clock.numbers();
-    assert_same(rt, &(numbers.next, numbers.mark), &(left.next, last));
-    let lag = numbers.steering.lag;
-    assert_same(rt, &(lag.high, lag.low), &left.lag);
+/// Opens a keeper for this number of callers under a `Brand`, and lets them act.
+fn does<R: Wait + Abort>(rt: &R, alloc: Global, callers: usize, deed: Deed) -> Result<(), Fail> {
+    let prepared = ready(rt, alloc, Ticker::new(0, STEP), callers)?;
+    acts::<Brand, R>(rt, alloc, deed, prepared)
 }
 
-#[test]
-fn seconds_begin_late_through_an_inserted_second(rt: HostRuntime) -> Result<(), Fail> {
-    let prepared = ready(&rt, rt.alloc(), Ticker::new(0, STEP), 1)?;
-    begins_all::<Brand, _>(&rt, rt.alloc(), prepared)
-}
-
-fn begins_all<L: Named, R: Wait + Abort>(
+fn acts<L: Named, R: Wait + Abort>(
     rt: &R,
     alloc: Global,
+    deed: Deed,
     prepared: Prepared<Ticker>,
 ) -> Result<(), Fail>
     requires named { IsNamed prepared L.page L.latch L.notice L.name L.parts L.callers }
 {
-    let (keeper, mut callers) = opened::<L, Ticker>(alloc, prepared)?;
+    let opened = opened::<L, Ticker>(alloc, prepared)?;
+    match deed {
+        Deed::Begin => begins_all(rt, opened),
+        Deed::Advance => advances(rt, opened),
+        Deed::Meet => meets(rt, opened),
+        Deed::Fail => fails(rt, opened),
+    }
+}
+
+/// Lets the only caller open a discipline, which inserts a second as the day ends.
+fn announced<L: Named>(
+    rt: &impl Wait,
+    opened: Opened<L>,
+) -> Result<(SharedKeeper<L, Ticker>, SharedSteering<L>), Fail> {
+    let (keeper, mut callers) = opened;
     let mut steering = steered(rt, &keeper, callers.pop().ok_or("a caller")?)?;
     announce(&mut steering)?;
+    Ok((keeper, steering))
+}
+
+/// Checks the state past the inserted second. MONOTONIC at the last command is the multiplier, the
+/// seconds and the `2^-23` ns below them; the lag is in two words. The counter was read once for
+/// each command.
+fn leaves<L: Named>(
+    rt: &(impl Wait + Abort),
+    keeper: &SharedKeeper<L, Ticker>,
+    steering: SharedSteering<L>,
+    front: u64,
+    monotonic: (u32, u64, u64),
+    next_second: u64,
+    lag: (u64, u64),
+) {
+    let (mut caller, clock) = steering.into_parts();
+    let now = keeper.read(rt, &mut caller);
+    let last = front.wrapping_mul(STEP);
+    assert_same(rt, &(now.front(), now.last()), &(front, last));
+    assert_same(rt, &(now.mult(), now.sec(), now.frac()), &monotonic);
+    let offsets = (now.real_offset(), now.tai());
+    assert_same(rt, &offsets, &(1_483_228_797_000_000_000, 1));
+    let numbers = clock.numbers();
+    assert_same(rt, &(numbers.next, numbers.mark), &(next_second, last));
+    let found = numbers.steering.lag;
+    assert_same(rt, &(found.high, found.low), &lag);
+}
+
+#[test]
+fn seconds_begin_late_through_an_inserted_second(rt: HostRuntime) -> Result<(), Fail> {
+    does(&rt, rt.alloc(), 1, Deed::Begin)
+}
+
+fn begins_all<L: Named>(rt: &(impl Wait + Abort), opened: Opened<L>) -> Result<(), Fail> {
+    let (keeper, mut steering) = announced(rt, opened)?;
     for begun in BEGUN {
         assert_same(rt, &begins(rt, &keeper, &mut steering), &Ok(begun));
     }
-    let (mut caller, clock) = steering.into_parts();
-    let left = Left {
-        front: 24,
-        mult: 8_388_885,
-        sec: 7,
-        frac: 1_679_631_400_000_000,
-        next: 1_483_228_805,
-        lag: (1_152_921_504_674_885_678, 204_913_783_045_357_568),
-    };
-    leaves(rt, keeper.read(rt, &mut caller), &clock, left);
+    let (front, next_second) = (24, 1_483_228_805);
+    let monotonic = (8_388_885, 7, 1_679_631_400_000_000);
+    let lag = (1_152_921_504_674_885_678, 204_913_783_045_357_568);
+    leaves(rt, &keeper, steering, front, monotonic, next_second, lag);
     Ok(())
 }
 
 #[test]
 fn all_due_seconds_begin_late(rt: HostRuntime) -> Result<(), Fail> {
-    let prepared = ready(&rt, rt.alloc(), Ticker::new(0, STEP), 1)?;
-    advances::<Brand, _>(&rt, rt.alloc(), prepared)
+    does(&rt, rt.alloc(), 1, Deed::Advance)
 }
 
-fn advances<L: Named, R: Wait + Abort>(
-    rt: &R,
-    alloc: Global,
-    prepared: Prepared<Ticker>,
-) -> Result<(), Fail>
-    requires named { IsNamed prepared L.page L.latch L.notice L.name L.parts L.callers }
-{
-    let (keeper, mut callers) = opened::<L, Ticker>(alloc, prepared)?;
-    let mut steering = steered(rt, &keeper, callers.pop().ok_or("a caller")?)?;
-    announce(&mut steering)?;
+fn advances<L: Named>(rt: &(impl Wait + Abort), opened: Opened<L>) -> Result<(), Fail> {
+    let (keeper, mut steering) = announced(rt, opened)?;
     for _ in 0..3u8 {
         assert_same(rt, &advanced(rt, &keeper, &mut steering), &Ok(()));
     }
-    let (mut caller, clock) = steering.into_parts();
-    let left = Left {
-        front: 14,
-        mult: 8_388_867,
-        sec: 4,
-        frac: 1_678_809_100_000_000,
-        next: 1_483_228_801,
-        lag: (1_152_921_502_771_523_105, 15_088_747_601_551_425_536),
-    };
-    leaves(rt, keeper.read(rt, &mut caller), &clock, left);
+    let (front, next_second) = (14, 1_483_228_801);
+    let monotonic = (8_388_867, 4, 1_678_809_100_000_000);
+    let lag = (1_152_921_502_771_523_105, 15_088_747_601_551_425_536);
+    leaves(rt, &keeper, steering, front, monotonic, next_second, lag);
     Ok(())
+}
+
+/// Returns the keeper and its two callers.
+fn two_of<L: Named>(
+    opened: Opened<L>,
+) -> Result<(SharedKeeper<L, Ticker>, Caller<L>, Caller<L>), Fail> {
+    let (keeper, mut callers) = opened;
+    let two = callers.pop().ok_or("a caller")?;
+    Ok((keeper, callers.pop().ok_or("a caller")?, two))
 }
 
 #[test]
 fn another_callers_command_is_reported(rt: HostRuntime) -> Result<(), Fail> {
-    let prepared = ready(&rt, rt.alloc(), Ticker::new(0, STEP), 2)?;
-    meets::<Brand, _>(&rt, rt.alloc(), prepared)
+    does(&rt, rt.alloc(), 2, Deed::Meet)
 }
 
-fn meets<L: Named, R: Wait + Abort>(
-    rt: &R,
-    alloc: Global,
-    prepared: Prepared<Ticker>,
-) -> Result<(), Fail>
-    requires named { IsNamed prepared L.page L.latch L.notice L.name L.parts L.callers }
-{
-    let (keeper, mut callers) = opened::<L, Ticker>(alloc, prepared)?;
-    let mut other = callers.pop().ok_or("a caller")?;
-    let mut steering = steered(rt, &keeper, callers.pop().ok_or("a caller")?)?;
+fn meets<L: Named>(rt: &(impl Wait + Abort), opened: Opened<L>) -> Result<(), Fail> {
+    let (keeper, one, mut other) = two_of(opened)?;
+    let mut steering = steered(rt, &keeper, one)?;
     assert_same(rt, &begins(rt, &keeper, &mut steering), &Ok(false));
     let _ = keeper.read(rt, &mut other);
     assert_same(rt, &steering.is_lost(), &false);
@@ -154,21 +165,12 @@ fn meets<L: Named, R: Wait + Abort>(
 
 #[test]
 fn no_discipline_is_opened_in_error(rt: HostRuntime) -> Result<(), Fail> {
-    let prepared = ready(&rt, rt.alloc(), Ticker::new(0, STEP), 2)?;
-    fails::<Brand, _>(&rt, rt.alloc(), prepared)
+    does(&rt, rt.alloc(), 2, Deed::Fail)
 }
 
-fn fails<L: Named, R: Wait + Abort>(
-    rt: &R,
-    alloc: Global,
-    prepared: Prepared<Ticker>,
-) -> Result<(), Fail>
-    requires named { IsNamed prepared L.page L.latch L.notice L.name L.parts L.callers }
-{
-    let (keeper, mut callers) = opened::<L, Ticker>(alloc, prepared)?;
-    let mut other = callers.pop().ok_or("a caller")?;
-    let caller = callers.pop().ok_or("a caller")?;
-    let Err(unsteered) = SharedSteering::open(rt, &keeper, caller, 0) else {
+fn fails<L: Named>(rt: &(impl Wait + Abort), opened: Opened<L>) -> Result<(), Fail> {
+    let (keeper, one, mut other) = two_of(opened)?;
+    let Err(unsteered) = SharedSteering::open(rt, &keeper, one, 0) else {
         return Err(Fail::from("opened with hz 0"));
     };
     assert_same(

@@ -122,7 +122,7 @@ fn readers_see_no_time_fall_and_no_tai_leap(rt: HostRuntime) -> Result<(), Fail>
     };
     let counter = SharedReader::new(rt.alloc(), &board.counter)?;
     let prepared = ready(&rt, rt.alloc(), counter, 3)?;
-    all_act::<Brand, _, _>(&rt, rt.alloc(), prepared, &board)
+    all_act::<Brand, _, _>(&rt, rt.alloc(), &board, prepared)
 }
 
 /// The last callers of a list.
@@ -133,8 +133,8 @@ fn last_three<L: Named>(mut callers: Vec<Caller<L>>) -> Option<(Caller<L>, Calle
 fn all_act<L: Named + Send + Sync, C: Counter, R: Threads + Wait + Abort + Sync>(
     rt: &R,
     alloc: Global,
-    prepared: Prepared<C>,
     board: &Board,
+    prepared: Prepared<C>,
 ) -> Result<(), Fail>
     requires named { IsNamed prepared L.page L.latch L.notice L.name L.parts L.callers }
 {
