@@ -3,12 +3,13 @@
 ghost use Rattle.std.specs.Prelude.{◌≡◌};
 ghost use Rattle.tk_shared.specs.Opening.{IsNamed};
 
-use super::{folding, open_two, ready, turns};
+use super::{folding, leaps, open_two, readers, ready, turns};
 use std::alloc::Global;
 use std::marker::Brand;
 use std::process::Abort;
 use std::sync::Wait;
 use std::test::Fail;
+use std::thread::Threads;
 use tk_shared::{Caller, Named, Prepared, SharedKeeper, Ticker};
 
 /// The actions of the callers 0 and 1 of a keeper.
@@ -17,7 +18,9 @@ pub(super) enum Deed {
     Fills,
     Fold,
     Follow,
+    Glance,
     Keeps,
+    Leap,
     Read,
     ReadFast,
 }
@@ -32,7 +35,7 @@ pub(super) struct Two<L: Named> {
 }
 
 /// Lets the two callers of a keeper with this counter do their actions.
-pub(super) fn does<R: Wait + Abort>(
+pub(super) fn does<R: Threads + Wait + Abort + Sync>(
     rt: &R,
     alloc: Global,
     ticker: Ticker,
@@ -42,7 +45,7 @@ pub(super) fn does<R: Wait + Abort>(
     two_callers::<Brand, R>(rt, alloc, prepared, deed)
 }
 
-fn two_callers<L: Named, R: Wait + Abort>(
+fn two_callers<L: Named + Send + Sync, R: Threads + Wait + Abort + Sync>(
     rt: &R,
     alloc: Global,
     prepared: Prepared<Ticker>,
@@ -62,7 +65,9 @@ fn two_callers<L: Named, R: Wait + Abort>(
         Deed::Fills => folding::fills(rt, &mut two),
         Deed::Fold => folding::folds(rt, two),
         Deed::Follow => turns::follows(rt, &mut two),
+        Deed::Glance => readers::glances_beside(rt, &mut two),
         Deed::Keeps => folding::keeps(rt, &mut two),
+        Deed::Leap => leaps::both_act(rt, two),
         Deed::Read => turns::reads(rt, two),
         Deed::ReadFast => turns::reads_fast(rt, &mut two),
     }

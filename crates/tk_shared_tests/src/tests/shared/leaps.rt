@@ -1,17 +1,13 @@
 //! Tests that no reader sees a leap second without its TAI offset: one thread makes leaps in turn,
 //! and another reads by the page and the latch.
-ghost use Rattle.std.specs.Prelude.{◌≡◌};
-ghost use Rattle.tk_shared.specs.Opening.{IsNamed};
-
-use super::{assert_same, commanded, glanced, open_two, read_by, ready};
-use std::alloc::Global;
-use std::marker::Brand;
+use super::deeds::{Deed, Two, does};
+use super::{assert_same, commanded, glanced, read_by};
 use std::process::Abort;
 use std::sync::Wait;
 use std::test::Fail;
 use std::thread::{Threads, join};
 use tk_clock::{Command, Refusal, Snapshot};
-use tk_shared::{Caller, Named, Prepared, SharedKeeper, Ticker};
+use tk_shared::{Caller, Named, SharedKeeper, Ticker};
 
 /// The number of leaps.
 const LEAPS: u64 = 100_000;
@@ -71,25 +67,25 @@ fn reads<L: Named, R: Wait>(
 
 #[test]
 fn no_reader_sees_tai_leap(rt: HostRuntime) -> Result<(), Fail> {
-    let prepared = ready(&rt, rt.alloc(), Ticker::new(0, 1_000), 2)?;
-    both_act::<Brand, _>(&rt, rt.alloc(), prepared)
+    does(&rt, rt.alloc(), Ticker::new(0, 1_000), Deed::Leap)
 }
 
-fn both_act<L: Named + Send + Sync, R: Threads + Wait + Abort + Sync>(
+pub(super) fn both_act<L: Named + Send + Sync, R: Threads + Wait + Abort + Sync>(
     rt: &R,
-    alloc: Global,
-    prepared: Prepared<Ticker>,
-) -> Result<(), Fail>
-    requires named { IsNamed prepared L.page L.latch L.notice L.name L.parts L.callers }
-    requires two { prepared.callers ≡ 2 }
-{
-    let (keeper, mut one, two) = open_two::<L, Ticker>(alloc, prepared)?;
+    two: Two<L>,
+) -> Result<(), Fail> {
+    let Two {
+        alloc: _,
+        keeper,
+        mut one,
+        other,
+    } = two;
     commanded(rt, &keeper, &mut one, Command::Tai(37))?;
     let keeper = &keeper;
     let (made, leapt) = join(
         rt,
         move || leaps(rt, keeper, one),
-        move || reads(rt, keeper, two),
+        move || reads(rt, keeper, other),
     );
     assert_same(rt, &(made, leapt), &(Ok(()), 0));
     Ok(())

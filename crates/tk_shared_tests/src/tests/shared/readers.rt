@@ -1,16 +1,13 @@
 //! Tests one thread that gives commands while another reads the latch.
-ghost use Rattle.std.specs.Prelude.{◌≡◌};
-ghost use Rattle.tk_shared.specs.Opening.{IsNamed};
-
-use super::{assert_same, commanded, glanced, open_two, read_by, ready};
-use std::marker::Brand;
+use super::deeds::{Deed, Two, does};
+use super::{assert_same, commanded, glanced, read_by};
 use std::process::Abort;
 use std::sync::Wait;
 use std::sync::atomic::{AtomicU64, Ordering};
 use std::test::Fail;
 use std::thread::{self, Threads, join};
 use tk_clock::{Command, Snapshot};
-use tk_shared::{Caller, Named, Prepared, SharedKeeper, Ticker};
+use tk_shared::{Caller, Named, SharedKeeper, Ticker};
 
 /// The number of commands, and the cycles from one to the next.
 const COMMANDS: u64 = 100_000;
@@ -76,29 +73,24 @@ fn sees_all<L: Named, R: Wait>(
 
 #[test]
 fn fast_reads_are_whole_while_commands_are_given(rt: HostRuntime) -> Result<(), Fail> {
-    let prepared = ready(&rt, rt.alloc(), Ticker::new(0, STEP), 2)?;
-    glances_beside::<Brand, _>(&rt, prepared)
+    does(&rt, rt.alloc(), Ticker::new(0, STEP), Deed::Glance)
 }
 
-fn glances_beside<L: Named + Send + Sync, R: Threads + Wait + Abort + AllocGlobal + Sync>(
+pub(super) fn glances_beside<L: Named + Send + Sync, R: Threads + Wait + Abort + Sync>(
     rt: &R,
-    prepared: Prepared<Ticker>,
-) -> Result<(), Fail>
-    requires named { IsNamed prepared L.page L.latch L.notice L.name L.parts L.callers }
-    requires two { prepared.callers ≡ 2 }
-{
-    let (keeper, mut one, mut two) = open_two::<L, Ticker>(rt.alloc(), prepared)?;
+    two: &mut Two<L>,
+) -> Result<(), Fail> {
     let ended = AtomicU64::new(0);
-    let (shared, flag) = (&keeper, &ended);
-    let (first, second) = (&mut one, &mut two);
+    let (keeper, flag) = (&two.keeper, &ended);
+    let (first, second) = (&mut two.one, &mut two.other);
     let (commanded, read) = join(
         rt,
         move || {
-            let is_good = commands(rt, shared, first);
+            let is_good = commands(rt, keeper, first);
             flag.store(1, Ordering::SeqCst);
             is_good
         },
-        move || glances(rt, shared, second, flag),
+        move || glances(rt, keeper, second, flag),
     );
     assert_same(rt, &(commanded, read), &(true, true));
     Ok(())
