@@ -11,6 +11,7 @@
 //! and 2 for other arguments.
 #![tactic(auto)]
 
+mod keeper;
 mod latch;
 mod latch_desk;
 mod many;

@@ -2,6 +2,7 @@
 //! call; without commands, and with a thousand commands a second in another thread.
 ghost use Rattle.tk_shared.specs.Opening.{IsNamed};
 
+use crate::keeper::prepared;
 use std::alloc::Global;
 use std::marker::Brand;
 use std::sync::Wait;
@@ -10,14 +11,11 @@ use std::thread::{self, Threads};
 use std::time::{Clock as Hours, Duration, Instant};
 use tk_clock::{ClockId, Command, Timespec};
 use tk_now::{HostCounter, Look, SharedCounter, SharedTicker};
-use tk_shared::{Caller, Counter, Named, Prepared, SharedKeeper, SharedReader, prepare};
-use tk_test_support::{Effort, OPENED_TIME, Turn, nanosecond_counter, nanoseconds};
+use tk_shared::{Caller, Counter, Named, Prepared, SharedKeeper, SharedReader};
+use tk_test_support::{Effort, Turn, nanoseconds};
 
 /// The number of calls of a full turn.
 const CALLS: u64 = 3_000_000;
-
-/// The number of commands for which the keeper has capacity.
-const ROOM: usize = 100_000;
 
 /// The cycles from one reading of the counter to the next.
 const CYCLES: u64 = 10;
@@ -120,7 +118,7 @@ fn updates_slowly<L: Named, C: Counter, R: Wait + Hours>(
     mut caller: Caller<L>,
     enough: &AtomicBool,
 ) {
-    for _ in 0..ROOM {
+    for _ in rt.forever() {
         let _ = keeper.command(rt, &mut caller, Command::Update);
         if enough.load(Ordering::SeqCst) {
             return;
@@ -201,8 +199,7 @@ fn tallied<S: SharedCounter + Sync, R: Threads + Wait + Hours + Sync>(
     count: u64,
 ) -> Option<(Duration, Tally)> {
     let reader = SharedReader::new(alloc, counter).ok()?;
-    let desc = nanosecond_counter().ok()?;
-    let prepared = prepare(alloc, rt, desc, OPENED_TIME, reader, 2, ROOM).ok()?;
+    let prepared = prepared(rt, alloc, reader, 2)?;
     timed::<Brand, S, R>(rt, alloc, prepared, counter, asked, beside, count)
 }
 

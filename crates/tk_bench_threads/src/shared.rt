@@ -1,6 +1,7 @@
 //! Times commands of a shared keeper by one thread and by four, and concurrent reads.
 ghost use Rattle.tk_shared.specs.Opening.{IsNamed};
 
+use crate::keeper::prepared;
 use std::alloc::Global;
 use std::marker::Brand;
 use std::sync::Wait;
@@ -8,17 +9,11 @@ use std::sync::atomic::{AtomicU64, Ordering};
 use std::thread::{self, Threads};
 use std::time::{Clock as Hours, Instant};
 use tk_clock::{Command, Snapshot};
-use tk_shared::{Caller, Named, Prepared, SharedKeeper, Ticker, prepare};
-use tk_test_support::{Effort, OPENED_TIME, STEP, Turn, nanosecond_counter, weighed, weight};
+use tk_shared::{Caller, Named, Prepared, SharedKeeper, Ticker};
+use tk_test_support::{Effort, STEP, Turn, weighed, weight};
 
 /// The number of commands of a full turn, in all threads together.
 const COMMANDS: u64 = 300_000;
-
-/// The number of commands for which the keeper has capacity.
-const ROOM: usize = 300_000;
-
-/// The number of reads between two tests of whether the other threads have ended.
-const READS_BETWEEN: u64 = 64;
 
 /// Names the timed work.
 #[derive(Clone, Copy)]
@@ -36,9 +31,7 @@ pub fn turn<R: Threads + Wait + Hours + Sync>(
     work: Work,
     effort: Effort,
 ) -> Option<Turn> {
-    let counter = Ticker::new(0, STEP);
-    let desc = nanosecond_counter().ok()?;
-    let prepared = prepare(alloc, rt, desc, OPENED_TIME, counter, 5, ROOM).ok()?;
+    let prepared = prepared(rt, alloc, Ticker::new(0, STEP), 5)?;
     worked::<Brand, R>(rt, alloc, prepared, work, effort.of(COMMANDS))
 }
 
@@ -192,6 +185,9 @@ fn beside<L: Named + Send + Sync, R: Threads + Wait + Sync>(
     );
     done
 }
+
+/// The number of reads between two tests of whether the other threads have ended.
+const READS_BETWEEN: u64 = 64;
 
 /// Reads by one of the two calls until all four have ended. Only successful reads count.
 #[inline(always)]
