@@ -1,8 +1,8 @@
 //! Times reads and publications of a latch.
 ghost use Rattle.std.specs.Prelude.{◌≡◌};
-ghost use Rattle.std.specs.Thread.{IsSync};
 
-use crate::latch_desk::{LatchDesk, opened};
+use crate::latch_desk::LatchDesk;
+use crate::timing::{at_once, timed};
 use std::alloc::Global;
 use std::sync::atomic::{AtomicBool, Ordering};
 use std::thread::{self, Threads};
@@ -32,26 +32,12 @@ fn reads(latch: &Latch, reader: &mut LatchReader, usual: u64, count: u64) -> u64
     sum
 }
 
-fn timed_reads<R: Hours>(
-    rt: &R,
-    latch: &Latch,
-    reader: &mut LatchReader,
-    usual: u64,
-    count: u64,
-) -> Option<Turn>
-    requires { reader.old.latch ≡ latch.now }
-{
-    let start = Instant::now(rt).ok()?;
-    let check = reads(latch, reader, usual, count);
-    let time = start.elapsed(rt).ok()?;
-    Some(Turn { time, count, check })
-}
-
 /// Times reads while nobody publishes. Returns `None` if a call fails.
 pub fn quiet<R: Hours>(rt: &R, alloc: Global, effort: Effort) -> Option<Turn> {
-    let (latch, mut desk, mut reader) = opened(alloc)?;
+    let (latch, mut desk, mut reader) = LatchDesk::open(alloc)?;
     desk.update(&latch)?;
-    timed_reads(rt, &latch, &mut reader, 0, effort.of(READS))
+    let count = effort.of(READS);
+    timed(rt, count, || reads(&latch, &mut reader, 0, count))
 }
 
 /// Publishes a thousand times a second until `enough` is set.
@@ -66,42 +52,17 @@ fn publishes_slowly<R: Hours>(rt: &R, latch: &Latch, desk: &mut LatchDesk, enoug
     }
 }
 
-/// Times reads in one thread, and publishes in another until the reads are done.
-fn both<R: Threads + Hours + Sync>(
-    rt: &R,
-    latch: &Latch,
-    mut desk: LatchDesk,
-    mut reader: LatchReader,
-    usual: u64,
-    count: u64,
-) -> Option<Turn>
-    requires desk { desk.latch ≡ latch.now }
-    requires reader { reader.latch ≡ latch.now }
-{
-    let enough = AtomicBool::new(false);
-    let stop = &enough;
-    let (_, turn) = thread::join(
-        rt,
-        move || -> ()
-            requires { IsSync R.row × (desk.latch ≡ latch.now) }
-        { publishes_slowly(rt, latch, &mut desk, stop) },
-        move || -> Option<Turn>
-            requires { IsSync R.row × (reader.latch ≡ latch.now) }
-        {
-            let turn = timed_reads(rt, latch, &mut reader, usual, count);
-            stop.store(true, Ordering::SeqCst);
-            turn
-        },
-    );
-    turn
-}
-
 /// Times reads while another thread publishes a thousand times a second. Returns `None` if a call
 /// fails.
 pub fn beside<R: Threads + Hours + Sync>(rt: &R, alloc: Global, effort: Effort) -> Option<Turn> {
-    let (latch, desk, mut reader) = opened(alloc)?;
+    let (latch, mut desk, mut reader) = LatchDesk::open(alloc)?;
     let usual = reads(&latch, &mut reader, 0, 1);
-    both(rt, &latch, desk, reader, usual, effort.of(READS))
+    let (latch, count) = (&latch, effort.of(READS));
+    at_once(
+        rt,
+        move |enough: &AtomicBool| publishes_slowly(rt, latch, &mut desk, enough),
+        move || timed(rt, count, || reads(latch, &mut reader, usual, count)),
+    )
 }
 
 /// Updates and publishes `count` times.
@@ -116,7 +77,7 @@ fn publications(latch: &Latch, desk: &mut LatchDesk, count: u64) -> Option<()>
 
 /// Times updates of clocks with their publications. Returns `None` if a call fails.
 pub fn publishing<R: Hours>(rt: &R, alloc: Global, effort: Effort) -> Option<Turn> {
-    let (latch, mut desk, mut reader) = opened(alloc)?;
+    let (latch, mut desk, mut reader) = LatchDesk::open(alloc)?;
     let count = effort.of(PUBLICATIONS);
     let start = Instant::now(rt).ok()?;
     publications(&latch, &mut desk, count)?;

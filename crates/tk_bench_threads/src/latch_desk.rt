@@ -29,24 +29,24 @@ impl Model for LatchDesk {
         × (d.front + 1 ≡ length d.writer.publications) };
 }
 
-/// Opens clocks and a latch of their snapshot, and returns the latch, its desk and one reader.
-/// Returns `None` if a call fails.
-pub fn opened(alloc: Global) -> Option<(Latch, LatchDesk, LatchReader)>
-    ensures desk { IfSome result (λ opened. opened.1.latch ≡ opened.0) }
-    ensures reader { IfSome result (λ opened. opened.2.latch ≡ opened.0) }
-{
-    let clock = Clock::open(nanosecond_counter().ok()?, 0, OPENED_TIME).ok()?;
-    let (latch, writer, mut readers) = Latch::open(alloc, clock.snapshot(0), 1).ok()?;
-    let reader = readers.pop()?;
-    let desk = LatchDesk {
-        clock,
-        writer,
-        front: 0,
-    };
-    Some((latch, desk, reader))
-}
-
 impl LatchDesk {
+    /// Opens clocks and a latch of their snapshot, and returns the latch, its desk and one reader.
+    /// Returns `None` if a call fails.
+    pub fn open(alloc: Global) -> Option<(Latch, LatchDesk, LatchReader)>
+        ensures desk { IfSome result (λ opened. opened.1.latch ≡ opened.0) }
+        ensures reader { IfSome result (λ opened. opened.2.latch ≡ opened.0) }
+    {
+        let clock = Clock::open(nanosecond_counter().ok()?, 0, OPENED_TIME).ok()?;
+        let (latch, writer, mut readers) = Latch::open(alloc, clock.snapshot(0), 1).ok()?;
+        let reader = readers.pop()?;
+        let desk = LatchDesk {
+            clock,
+            writer,
+            front: 0,
+        };
+        Some((latch, desk, reader))
+    }
+
     /// Updates the clocks, a step after the last update, and publishes them. Returns `None` if the
     /// update or the publication is refused.
     pub fn update(&mut self, latch: &Latch) -> Option<()>

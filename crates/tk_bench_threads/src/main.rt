@@ -20,6 +20,7 @@ mod page;
 mod race;
 mod shared;
 mod timed_job;
+mod timing;
 mod unpublished;
 
 use now::{Asked, Beside};

@@ -3,6 +3,7 @@
 ghost use Rattle.tk_shared.specs.Opening.{IsNamed};
 
 use crate::keeper::prepared;
+use crate::timing::at_once;
 use std::alloc::Global;
 use std::marker::Brand;
 use std::sync::Wait;
@@ -127,36 +128,6 @@ fn updates_slowly<L: Named, C: Counter, R: Wait + Hours>(
     }
 }
 
-/// Asks in one thread, and gives updates in another until the answers are there.
-fn asks_beside<
-    L: Named + Send + Sync,
-    C: Counter + Send,
-    S: SharedCounter + Sync,
-    R: Threads + Wait + Hours + Sync,
->(
-    rt: &R,
-    keeper: &SharedKeeper<L, C>,
-    caller: &mut Caller<L>,
-    other: Caller<L>,
-    counter: &S,
-    look: &Look,
-    asked: Asked,
-    count: u64,
-) -> Tally {
-    let enough = AtomicBool::new(false);
-    let stop = &enough;
-    let (_, tally) = thread::join(
-        rt,
-        move || updates_slowly(rt, keeper, other, stop),
-        move || {
-            let tally = asks(rt, keeper, caller, counter, look, asked, count);
-            stop.store(true, Ordering::SeqCst);
-            tally
-        },
-    );
-    tally
-}
-
 /// Opens the keeper, and times the calls.
 fn timed<L: Named + Send + Sync, S: SharedCounter + Sync, R: Threads + Wait + Hours + Sync>(
     rt: &R,
@@ -172,18 +143,14 @@ fn timed<L: Named + Send + Sync, S: SharedCounter + Sync, R: Threads + Wait + Ho
     let look = Look::first(alloc).ok()?;
     let (keeper, mut callers) = SharedKeeper::<L, SharedReader<'_, S>>::open(alloc, prepared).ok()?;
     let (mut caller, other) = (callers.pop()?, callers.pop()?);
+    let (keeper, look) = (&keeper, &look);
     let start = Instant::now(rt).ok()?;
     let tally = match beside {
-        Beside::Nothing => asks(rt, &keeper, &mut caller, counter, &look, asked, count),
-        Beside::Updates => asks_beside(
+        Beside::Nothing => asks(rt, keeper, &mut caller, counter, look, asked, count),
+        Beside::Updates => at_once(
             rt,
-            &keeper,
-            &mut caller,
-            other,
-            counter,
-            &look,
-            asked,
-            count,
+            move |enough: &AtomicBool| updates_slowly(rt, keeper, other, enough),
+            move || asks(rt, keeper, &mut caller, counter, look, asked, count),
         ),
     };
     Some((start.elapsed(rt).ok()?, tally))

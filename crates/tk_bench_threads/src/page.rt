@@ -1,7 +1,7 @@
 //! Times reads and publications of a page.
 ghost use Rattle.std.specs.Prelude.{◌≡◌};
-ghost use Rattle.std.specs.Thread.{IsSync};
 
+use crate::timing::{at_once, timed};
 use std::alloc::Global;
 use std::sync::Wait;
 use std::sync::atomic::{AtomicBool, Ordering};
@@ -39,25 +39,12 @@ fn reads<R: Wait>(rt: &R, page: &Page, viewer: &mut Viewer, count: u64) -> u64
     sum
 }
 
-fn timed_reads<R: Wait + Hours>(
-    rt: &R,
-    page: &Page,
-    viewer: &mut Viewer,
-    count: u64,
-) -> Option<Turn>
-    requires { viewer.old.page ≡ page.now }
-{
-    let start = Instant::now(rt).ok()?;
-    let check = reads(rt, page, viewer, count);
-    let time = start.elapsed(rt).ok()?;
-    Some(Turn { time, count, check })
-}
-
 /// Times reads while nobody publishes. Returns `None` if a call fails.
 pub fn quiet<R: Wait + Hours>(rt: &R, alloc: Global, effort: Effort) -> Option<Turn> {
     let (page, mut desk, mut viewer) = opened_page(rt, alloc)?;
     update(rt, &page, &mut desk)?;
-    timed_reads(rt, &page, &mut viewer, effort.of(READS))
+    let count = effort.of(READS);
+    timed(rt, count, || reads(rt, &page, &mut viewer, count))
 }
 
 /// Publishes a thousand times a second until `enough` is set.
@@ -72,35 +59,6 @@ fn publishes_slowly<R: Wait + Hours>(rt: &R, page: &Page, desk: &mut PageDesk, e
     }
 }
 
-/// Times reads in one thread, and publishes in another until the reads are done.
-fn both<R: Threads + Wait + Hours + Sync>(
-    rt: &R,
-    page: &Page,
-    mut desk: PageDesk,
-    mut viewer: Viewer,
-    count: u64,
-) -> Option<Turn>
-    requires desk { desk.page ≡ page.now }
-    requires viewer { viewer.page ≡ page.now }
-{
-    let enough = AtomicBool::new(false);
-    let stop = &enough;
-    let (_, turn) = thread::join(
-        rt,
-        move || -> ()
-            requires { IsSync R.row × (desk.page ≡ page.now) }
-        { publishes_slowly(rt, page, &mut desk, stop) },
-        move || -> Option<Turn>
-            requires { IsSync R.row × (viewer.page ≡ page.now) }
-        {
-            let turn = timed_reads(rt, page, &mut viewer, count);
-            stop.store(true, Ordering::SeqCst);
-            turn
-        },
-    );
-    turn
-}
-
 /// Times reads while another thread publishes a thousand times a second. Returns `None` if a call
 /// fails.
 pub fn beside<R: Threads + Wait + Hours + Sync>(
@@ -108,8 +66,13 @@ pub fn beside<R: Threads + Wait + Hours + Sync>(
     alloc: Global,
     effort: Effort,
 ) -> Option<Turn> {
-    let (page, desk, viewer) = opened_page(rt, alloc)?;
-    both(rt, &page, desk, viewer, effort.of(READS))
+    let (page, mut desk, mut viewer) = opened_page(rt, alloc)?;
+    let (page, count) = (&page, effort.of(READS));
+    at_once(
+        rt,
+        move |enough: &AtomicBool| publishes_slowly(rt, page, &mut desk, enough),
+        move || timed(rt, count, || reads(rt, page, &mut viewer, count)),
+    )
 }
 
 /// Updates and publishes `count` times.
