@@ -1,4 +1,4 @@
-ghost use Rattle.std.specs.Prelude.{◌≡◌, MatchOption, MatchResult};
+ghost use Rattle.std.specs.Prelude.{◌≡◌, Some, MatchOption, MatchResult};
 ghost use Rattle.tk_clock.specs.Journal.{opened};
 ghost use Rattle.tk_clock.specs.Refusal.{opening_refusal};
 ghost use Rattle.tk_clock.specs.State.{state_of, effect};
@@ -15,7 +15,7 @@ use crate::counted::CountedClock;
 use crate::general_registers::store_snapshot;
 use crate::named::command_named;
 use crate::storage::{ClockStorage, SnapshotStorage};
-use tk_clock::{COUNTED_LIMIT, Clock, Refusal, Timespec};
+use tk_clock::{COUNTED_LIMIT, Clock, Command, Refusal, Timespec};
 use tk_counter::CounterDesc;
 
 /// The number of the command `Update`.
@@ -127,33 +127,27 @@ pub extern "C" fn tkc_clock_apply(
     // Updates are the most frequent commands. Their separate machine code reserves no stack for
     // other commands.
     if command == UPDATE {
-        return apply_numbered(clock, reading, command, number, nsec);
+        return apply_counted(clock, reading, Command::Update);
     }
     apply_other(clock, reading, command, number, nsec)
 }
 
-/// Applies a command by its number, out of line.
+/// Applies the command with this number and counts it, out of line.
 #[inline(never)]
 fn apply_other(clock: &mut CountedClock, reading: u64, command: u32, number: i64, nsec: u32) -> u32
     ensures { IsApplied clock.old reading (command_named command number nsec) result clock.new }
 {
-    apply_numbered(clock, reading, command, number, nsec)
+    match command_named(command, number, nsec) {
+        Some(cmd) => apply_counted(clock, reading, cmd),
+        None => Code::BadCommand.number(),
+    }
 }
 
-/// Applies the command with this number to the clocks and counts it.
+/// Applies a command, and counts it if it is accepted.
 #[inline(always)]
-fn apply_numbered(
-    clock: &mut CountedClock,
-    reading: u64,
-    command: u32,
-    number: i64,
-    nsec: u32,
-) -> u32
-    ensures { IsApplied clock.old reading (command_named command number nsec) result clock.new }
+fn apply_counted(clock: &mut CountedClock, reading: u64, cmd: Command) -> u32
+    ensures { IsApplied clock.old reading (Some cmd) result clock.new }
 {
-    let Some(cmd) = command_named(command, number, nsec) else {
-        return Code::BadCommand.number();
-    };
     if clock.front >= COUNTED_LIMIT {
         return Code::from(Refusal::Full).number();
     }
