@@ -12,7 +12,8 @@ use Rattle.tk_clock.specs.declared.clock_id.ClockId.{ClockId}
 use Rattle.tk_clock.specs.declared.command.Command.TheVariants.{Update}
 use Rattle.tk_script.specs.Number.{number_of}
 use Rattle.tk_script.specs.Plain.{EndsLine, FirstLineGives, IsExpected, Lacks, cut_at_commas, cut_after}
-use Rattle.tk_script.specs.Rows.{look_of, plain_of, row_of}
+use Rattle.tk_script.specs.Field.{reading_of}
+use Rattle.tk_script.specs.Rows.{look_of, row_of}
 use Rattle.tk_script.specs.Stamps.{stamp_of}
 use Rattle.tk_script.specs.Word.{clock_of}
 use Rattle.tk_script.specs.declared.row.Row.TheVariants.{Act, Look}
@@ -59,7 +60,7 @@ lacks-either a b (x ∷ xs) e =
 -- the row of an update
 update-row : (n reading : ℕ) (digits : List ℕ) → number_of digits ≡ Some reading →
     row_of n (codes "update" ∷ digits ∷ []) ≡ Ok (Act reading Update)
-unfolding row_of plain_of field_at
+unfolding row_of reading_of field_at
 update-row n reading digits e = rw e refl
 
 update-cut : (digits : List ℕ) → Lacks (is_byte 44) digits →

@@ -18,7 +18,7 @@ plan_of fields = do
   Ok (record { state = state; is_due = is_due; due = due })
 
 -- the discipline, in the units of tk_ntp
-unfoldable pub discipline_of : List (List ℕ) → Result DisciplineNumbers ScriptError
+abbrev pub discipline_of : List (List ℕ) → Result DisciplineNumbers ScriptError
 discipline_of fields = do
   hz ← number32_at 1 fields 16
   status ← number32_at 1 fields 17
@@ -48,14 +48,14 @@ discipline_of fields = do
   })
 
 -- the two words of the lag
-unfoldable pub lag_of : List (List ℕ) → Result LagNumbers ScriptError
+abbrev pub lag_of : List (List ℕ) → Result LagNumbers ScriptError
 lag_of fields = do
   high ← number_at 1 fields 30
   low ← number_at 1 fields 31
   Ok (record { high = high; low = low })
 
 -- the discipline and its lag
-unfoldable pub steering_of : List (List ℕ) → Result SteeringNumbers ScriptError
+abbrev pub steering_of : List (List ℕ) → Result SteeringNumbers ScriptError
 steering_of fields = do
   ntp ← discipline_of fields
   lag ← lag_of fields

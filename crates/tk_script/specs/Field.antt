@@ -1,6 +1,6 @@
 -- The fields of a record, read from left to right: each field has the form that its place requires,
 -- or it is the record's fault.
-use Rattle.std.specs.Prelude.{ℕ, ℤ, ◌+◌, List, [], Result, Ok, Err, unwrap_or}
+use Rattle.std.specs.Prelude.{ℕ, ℤ, ◌+◌, ◌==◌, List, [], length, Result, Ok, Err, unwrap_or, if◌then◌else◌}
 use Rattle.std.specs.Option.{ok_or}
 use Rattle.csv.specs.Records.{field_at}
 use Rattle.tk_clock.specs.declared.clock_id.ClockId.{ClockId}
@@ -36,6 +36,11 @@ number32_at row fields i = ok_or (number32_of (field fields i)) (errors.Number r
 -- a signed 64-bit number in that field
 abbrev pub signed_at : ℕ → List (List ℕ) → ℕ → Result ℤ ScriptError
 signed_at row fields i = ok_or (signed_of (field fields i)) (errors.Number row)
+
+-- the reading (cycles) of a record with `count` fields
+unfoldable pub reading_of : ℕ → List (List ℕ) → ℕ → Result ℕ ScriptError
+reading_of row fields count =
+    if length fields == count then number_at row fields 1 else Err (errors.Fields row)
 
 -- a time: seconds in field `i` (signed, 64 bits), and nanoseconds in the next field (32 bits)
 unfoldable pub time_at : ℕ → List (List ℕ) → ℕ → Result Timespec ScriptError

@@ -1,11 +1,10 @@
 -- The record of a request to steered clocks (adjtimex(2)).
-use Rattle.std.specs.Prelude.{ℕ, List, length, Result, Ok, Err, ◌==◌, if◌then◌else◌}
+use Rattle.std.specs.Prelude.{ℕ, List, Result, Ok}
 use Rattle.tk_ntp.specs.declared.timex.Timex.{Timex}
-use Rattle.tk_script.specs.Field.{◌>>=◌, number_at, number32_at, signed_at}
+use Rattle.tk_script.specs.Field.{◌>>=◌, number32_at, reading_of, signed_at}
 use Rattle.tk_script.specs.declared.row.Row.{Row}
 use Rattle.tk_script.specs.declared.row.Row.TheVariants.{Ask}
 use Rattle.tk_script.specs.declared.script_error.ScriptError.{ScriptError}
-use Rattle.tk_script.specs.declared.script_error.ScriptError.TheVariants as errors
 
 -- the request in the fields after the reading: modes, offset, freq, maxerror, esterror, status,
 -- constant, tick, sec and sub
@@ -36,9 +35,7 @@ request_of row fields = do
 
 -- the row of a request: a reading (cycles), and the fields of the request
 unfoldable pub ask_of : ℕ → List (List ℕ) → Result Row ScriptError
-ask_of row fields =
-    if length fields == 12 then (do
-      reading ← number_at row fields 1
-      request ← request_of row fields
-      Ok (Ask reading request))
-    else Err (errors.Fields row)
+ask_of row fields = do
+  reading ← reading_of row fields 12
+  request ← request_of row fields
+  Ok (Ask reading request)

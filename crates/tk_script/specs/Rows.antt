@@ -7,7 +7,7 @@ use Rattle.tk_clock.specs.declared.command.Command.{Command}
 use Rattle.tk_clock.specs.declared.command.Command.TheVariants.{Update, SetTime, Step, Freq, Tick, Tai, Suspend, Resume}
 use Rattle.tk_clock.specs.declared.timespec.Timespec.{Timespec}
 use Rattle.tk_script.specs.Word.{is_word}
-use Rattle.tk_script.specs.Field.{◌>>=◌, field, number_at, number32_at, signed_at, time_at, clock_at}
+use Rattle.tk_script.specs.Field.{◌>>=◌, field, number_at, number32_at, reading_of, signed_at, time_at, clock_at}
 use Rattle.tk_script.specs.Records.{each}
 use Rattle.tk_script.specs.Requests.{ask_of}
 use Rattle.tk_script.specs.declared.row.Row.{Row}
@@ -15,27 +15,19 @@ use Rattle.tk_script.specs.declared.row.Row.TheVariants.{Act, Look, Change}
 use Rattle.tk_script.specs.declared.script_error.ScriptError.{ScriptError}
 use Rattle.tk_script.specs.declared.script_error.ScriptError.TheVariants as errors
 
--- the fields of a record with a reading (cycles) only
-unfoldable pub plain_of : ℕ → List (List ℕ) → Result ℕ ScriptError
-plain_of row fields = if length fields == 2 then number_at row fields 1 else Err (errors.Fields row)
-
 -- the fields of a record with a reading (cycles) and a time
 unfoldable pub timed_of : ℕ → List (List ℕ) → Result (ℕ × Timespec) ScriptError
-timed_of row fields =
-    if length fields == 4 then (do
-      reading ← number_at row fields 1
-      time ← time_at row fields 2
-      Ok (reading, time))
-    else Err (errors.Fields row)
+timed_of row fields = do
+  reading ← reading_of row fields 4
+  time ← time_at row fields 2
+  Ok (reading, time)
 
 -- the fields of a record with a reading (cycles) and a signed number
 unfoldable pub valued_of : ℕ → List (List ℕ) → Result (ℕ × ℤ) ScriptError
-valued_of row fields =
-    if length fields == 3 then (do
-      reading ← number_at row fields 1
-      value ← signed_at row fields 2
-      Ok (reading, value))
-    else Err (errors.Fields row)
+valued_of row fields = do
+  reading ← reading_of row fields 3
+  value ← signed_at row fields 2
+  Ok (reading, value)
 
 -- the value that a read expects, in ns: none if the record has no field for it
 abbrev pub expected_of : ℕ → List (List ℕ) → Result (Option ℕ) ScriptError
@@ -64,16 +56,14 @@ counter_of row counter = counter_if row counter (first_fault counter)
 -- the row of a change of counter: a reading of the present counter (cycles), the bits, the mult and
 -- the shift of the next one, and a reading of that one (cycles)
 unfoldable pub change_of : ℕ → List (List ℕ) → Result Row ScriptError
-change_of row fields =
-    if length fields == 6 then (do
-      reading ← number_at row fields 1
-      bits ← number32_at row fields 2
-      mult ← number32_at row fields 3
-      shift ← number32_at row fields 4
-      first ← number_at row fields 5
-      counter ← counter_of row (record { bits = bits; mult = mult; shift = shift })
-      Ok (Change reading counter first))
-    else Err (errors.Fields row)
+change_of row fields = do
+  reading ← reading_of row fields 6
+  bits ← number32_at row fields 2
+  mult ← number32_at row fields 3
+  shift ← number32_at row fields 4
+  first ← number_at row fields 5
+  counter ← counter_of row (record { bits = bits; mult = mult; shift = shift })
+  Ok (Change reading counter first)
 
 -- the row of a command without an operand
 abbrev pub plain : Command → Result ℕ ScriptError → Result Row ScriptError
@@ -87,14 +77,14 @@ with_operand command read = read >>= λ p. Ok (Act p.0 (command p.1))
 -- the command, the read, the change of counter or the request in the record `row`, or its fault
 unfoldable pub row_of : ℕ → List (List ℕ) → Result Row ScriptError
 row_of row fields =
-    if is_word (field fields 0) (codes "update") then plain Update (plain_of row fields)
+    if is_word (field fields 0) (codes "update") then plain Update (reading_of row fields 2)
     else if is_word (field fields 0) (codes "get") then look_of row fields
     else if is_word (field fields 0) (codes "set") then with_operand SetTime (timed_of row fields)
     else if is_word (field fields 0) (codes "step") then with_operand Step (timed_of row fields)
     else if is_word (field fields 0) (codes "freq") then with_operand Freq (valued_of row fields)
     else if is_word (field fields 0) (codes "tick") then with_operand Tick (valued_of row fields)
     else if is_word (field fields 0) (codes "tai") then with_operand Tai (valued_of row fields)
-    else if is_word (field fields 0) (codes "suspend") then plain Suspend (plain_of row fields)
+    else if is_word (field fields 0) (codes "suspend") then plain Suspend (reading_of row fields 2)
     else if is_word (field fields 0) (codes "resume") then with_operand Resume (timed_of row fields)
     else if is_word (field fields 0) (codes "counter") then change_of row fields
     else if is_word (field fields 0) (codes "adjtimex") then ask_of row fields

@@ -36,6 +36,17 @@ pub(crate) fn number_at(row: u64, fields: &Records<'_>, i: usize) -> Result<u64,
     number(field(fields, i)).ok_or(ScriptError::Number { row })
 }
 
+/// Parses the reading of a record that has `count` fields.
+#[tactic(auto, unfolding(crate::specs::Field::reading_of))]
+pub(crate) fn reading_of(row: u64, fields: &Records<'_>, count: usize) -> Result<u64, ScriptError>
+    ensures { result ≡ spec.reading_of row (fields_of fields.now) count }
+{
+    if fields.len() != count {
+        return Err(ScriptError::Fields { row });
+    }
+    number_at(row, fields, 1)
+}
+
 /// Parses an unsigned 8-bit number.
 pub(crate) fn number8_at(row: u64, fields: &Records<'_>, i: usize) -> Result<u8, ScriptError>
     ensures { result ≡ spec.number8_at row (fields_of fields.now) i }

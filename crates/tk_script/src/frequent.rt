@@ -11,10 +11,42 @@ use crate::plain::after_line;
 use crate::row::Row;
 use tk_clock::Command;
 
+/// Is parsed from the frequent forms of a record.
+pub(crate) trait Frequent: Sized {
+    ghost use Rattle.std.specs.Prelude.{ℕ, List, Result};
+    ghost use Rattle.tk_script.specs.declared.script_error.ScriptError.{ScriptError};
+
+    // The item of the record with this number and these fields, or the record's fault.
+    ghost item_of: { ℕ → List (List ℕ) → Result Self ScriptError };
+
+    /// Parses the item at the beginning of a text, and returns it and the text after its line.
+    /// `None` means that the line has another form or a fault.
+    fn leading(text: &[u8]) -> Option<(Self, &[u8])>
+        ensures { IfSome result (λ found. FirstLineGives item_of text.now found.0 found.1.now) };
+}
+
+impl Frequent for Row {
+    ghost item_of = { row_of };
+
+    #[inline(always)]
+    fn leading(text: &[u8]) -> Option<(Row, &[u8])> {
+        leading_row(text)
+    }
+}
+
+impl Frequent for (u64, u64) {
+    ghost item_of = { stamp_of };
+
+    #[inline(always)]
+    fn leading(text: &[u8]) -> Option<((u64, u64), &[u8])> {
+        leading_stamp(text)
+    }
+}
+
 /// Parses an update or a read at the beginning of a text, and returns its row and the text after
-/// its line. `None` means that the line has another form or a fault.
+/// its line.
 #[inline(always)]
-pub(crate) fn leading_row(text: &[u8]) -> Option<(Row, &[u8])>
+fn leading_row(text: &[u8]) -> Option<(Row, &[u8])>
     ensures { IfSome result (λ found. FirstLineGives row_of text.now found.0 found.1.now) }
 {
     match leading_update(text) {
@@ -66,7 +98,7 @@ fn leading_expected(text: &[u8]) -> Option<(Option<u64>, &[u8])>
 
 /// Parses a front and a stamp at the beginning of a text, and returns them and the text after their
 /// line.
-pub(crate) fn leading_stamp(text: &[u8]) -> Option<((u64, u64), &[u8])>
+fn leading_stamp(text: &[u8]) -> Option<((u64, u64), &[u8])>
     ensures { IfSome result (λ found. FirstLineGives stamp_of text.now found.0 found.1.now) }
 {
     let (front, end) = leading_number(text)?;

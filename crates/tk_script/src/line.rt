@@ -65,6 +65,18 @@ impl Line {
         self.start = write_digits(n, &mut self.bytes, self.start);
     }
 
+    /// Prepends two numbers in decimal, with a comma between them.
+    #[inline(always)]
+    pub fn put_numbers(&mut self, first: u64, second: u64)
+        requires { HasRoom 41 self.old }
+        ensures text { self.new ≡ decimal first ++ codes "," ++ decimal second ++ self.old }
+        ensures more { length self.new ≤ 41 + length self.old }
+    {
+        self.put_number(second);
+        self.put(b",");
+        self.put_number(first);
+    }
+
     /// Prepends seconds, a dot and nanoseconds.
     #[inline(always)]
     pub fn put_time(&mut self, time: Timespec)

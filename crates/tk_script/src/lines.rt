@@ -21,9 +21,7 @@ pub fn line_open<A: Allocator>(out: &mut Vec<u8, A>, desc: &CounterDesc) -> Resu
     let mut line = Line::end();
     line.put_number(u64::from(desc.shift()));
     line.put(b",");
-    line.put_number(u64::from(desc.mult()));
-    line.put(b",");
-    line.put_number(u64::from(desc.bits()));
+    line.put_numbers(u64::from(desc.bits()), u64::from(desc.mult()));
     line.put(b"open,");
     line.add_to(out)
 }
@@ -86,9 +84,7 @@ pub fn line_differs<A: Allocator>(
     ensures memory { IfErr result (λ e. e ≡ ScriptError.Memory) }
 {
     let mut line = Line::end();
-    line.put_number(value);
-    line.put(b",");
-    line.put_number(row);
+    line.put_numbers(row, value);
     line.put(b"differs,");
     line.add_to(out)
 }

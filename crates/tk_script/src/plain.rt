@@ -7,13 +7,10 @@ ghost use Rattle.csv.specs.declared.parser.State.TheVariants.{StartRecord};
 ghost use Rattle.tk_script.specs.Plain.{EndsLine, FirstLineGives, HasFields, IsPlain, cut_at_commas};
 ghost use Rattle.tk_script.specs.Reading.{Takes};
 ghost use Rattle.tk_script.specs.Records.{records_after};
-ghost use Rattle.tk_script.specs.Rows.{row_of};
-ghost use Rattle.tk_script.specs.Stamps.{stamp_of};
 
 use crate::fields::MOST_FIELDS;
-use crate::frequent::{leading_row, leading_stamp};
+use crate::frequent::Frequent;
 use crate::later_fields::field_in_line;
-use crate::row::Row;
 use memchr::{memchr, memchr2};
 
 /// The fields of a line.
@@ -110,27 +107,16 @@ impl<'a> Lines<'a> {
         }
     }
 
-    /// Takes the row of the next line, if the line has a frequent form and no fault.
+    /// Takes the item of the next line, if the line has a frequent form and no fault.
     #[inline(always)]
-    pub(crate) fn take_row(&mut self) -> Option<Row>
+    pub(crate) fn take<T: Frequent>(&mut self) -> Option<T>
         ensures some { IfSome result
-            (λ row. FirstLineGives row_of self.old.rest.now row self.new.rest.now) }
+            (λ item. FirstLineGives T.item_of self.old.rest.now item self.new.rest.now) }
         ensures none { IfNone result (self.new ≡ self.old) }
     {
-        let Some((row, rest)) = leading_row(self.rest) else {
+        let Some((item, rest)) = T::leading(self.rest) else {
             return None;
         };
-        self.rest = rest;
-        Some(row)
-    }
-
-    /// Takes the item of the next line of a stamp file, if the line has no fault.
-    pub(crate) fn take_stamp(&mut self) -> Option<(u64, u64)>
-        ensures some { IfSome result
-            (λ item. FirstLineGives stamp_of self.old.rest.now item self.new.rest.now) }
-        ensures none { IfNone result (self.new ≡ self.old) }
-    {
-        let (item, rest) = leading_stamp(self.rest)?;
         self.rest = rest;
         Some(item)
     }

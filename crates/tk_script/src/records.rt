@@ -5,11 +5,9 @@ ghost use Rattle.csv.specs.Records.{field_at};
 ghost use Rattle.tk_script.specs.Cursor.{IsCursor, TakesGiving, fields_of, left_in};
 ghost use Rattle.tk_script.specs.Reading.{IsReading, IsWantOfMemory, Takes, left_of};
 ghost use Rattle.tk_script.specs.Records.{records_of};
-ghost use Rattle.tk_script.specs.Rows.{row_of};
-ghost use Rattle.tk_script.specs.Stamps.{stamp_of};
 
+use crate::frequent::Frequent;
 use crate::plain::{Lines, is_plain};
-use crate::row::Row;
 use crate::script_error::ScriptError;
 use csv::{ByteRecord, Error, Reader, ReaderBuilder};
 use std::alloc::Global;
@@ -85,29 +83,17 @@ impl<'a> Records<'a> {
         }
     }
 
-    /// Takes the row of the next record, if the record has a frequent form and no fault.
+    /// Takes the item of the next record, if the text is plain and the record has a frequent form
+    /// and no fault.
     #[inline(always)]
-    pub(crate) fn take_row(&mut self) -> Option<Row>
+    pub(crate) fn take<T: Frequent>(&mut self) -> Option<T>
         requires { IsCursor self.old }
-        ensures some { IfSome result (λ row. TakesGiving row_of row self.old self.new) }
+        ensures some { IfSome result (λ item. TakesGiving T.item_of item self.old self.new) }
         ensures none { IfNone result (self.new ≡ self.old) }
     {
         match self {
             Records::Quoted(_) => None,
-            Records::Plain(lines) => lines.take_row(),
-        }
-    }
-
-    /// Takes the item of the next record of a stamp file, if the text is plain and the record has
-    /// no fault.
-    pub(crate) fn take_stamp(&mut self) -> Option<(u64, u64)>
-        requires { IsCursor self.old }
-        ensures some { IfSome result (λ item. TakesGiving stamp_of item self.old self.new) }
-        ensures none { IfNone result (self.new ≡ self.old) }
-    {
-        match self {
-            Records::Quoted(_) => None,
-            Records::Plain(lines) => lines.take_stamp(),
+            Records::Plain(lines) => lines.take(),
         }
     }
 }

@@ -3,7 +3,7 @@ ghost use Rattle.std.specs.Prelude.{◌≡◌};
 ghost use Rattle.tk_script.specs.Cursor.{fields_of};
 ghost use Rattle.tk_script.specs.Requests as spec;
 
-use crate::fields::{number_at, number32_at, signed_at};
+use crate::fields::{number32_at, reading_of, signed_at};
 use crate::records::Records;
 use crate::row::Row;
 use crate::script_error::ScriptError;
@@ -14,10 +14,7 @@ use tk_ntp::Timex;
 pub(crate) fn read_ask(row: u64, fields: &Records<'_>) -> Result<Row, ScriptError>
     ensures { result ≡ spec.ask_of row (fields_of fields.now) }
 {
-    if fields.len() != 12 {
-        return Err(ScriptError::Fields { row });
-    }
-    let reading = number_at(row, fields, 1)?;
+    let reading = reading_of(row, fields, 12)?;
     let request = read_request(row, fields)?;
     Ok(Row::Ask { reading, request })
 }

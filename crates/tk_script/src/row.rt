@@ -3,7 +3,9 @@ ghost use Rattle.tk_script.specs.Cursor.{fields_of};
 ghost use Rattle.tk_script.specs.Rows as spec;
 ghost use Rattle.tk_script.specs.declared.row.Row.TheVariants.{Act};
 
-use crate::fields::{clock_at, field, has_word, number_at, number32_at, signed_at, time_at};
+use crate::fields::{
+    clock_at, field, has_word, number_at, number32_at, reading_of, signed_at, time_at,
+};
 use crate::records::Records;
 use crate::requests::read_ask;
 use crate::script_error::ScriptError;
@@ -48,7 +50,7 @@ pub(crate) fn read_row(row: u64, fields: &Records<'_>) -> Result<Row, ScriptErro
 {
     let word = field(fields, 0);
     if has_word(word, b"update") {
-        read_plain(row, fields).map(|reading| act(reading, Command::Update))
+        reading_of(row, fields, 2).map(|reading| act(reading, Command::Update))
     } else if has_word(word, b"get") {
         read_look(row, fields)
     } else if has_word(word, b"set") {
@@ -62,7 +64,7 @@ pub(crate) fn read_row(row: u64, fields: &Records<'_>) -> Result<Row, ScriptErro
     } else if has_word(word, b"tai") {
         read_valued(row, fields).map(|(reading, tai)| act(reading, Command::Tai(tai)))
     } else if has_word(word, b"suspend") {
-        read_plain(row, fields).map(|reading| act(reading, Command::Suspend))
+        reading_of(row, fields, 2).map(|reading| act(reading, Command::Suspend))
     } else if has_word(word, b"resume") {
         read_timed(row, fields).map(|(reading, time)| act(reading, Command::Resume(time)))
     } else if has_word(word, b"counter") {
@@ -81,28 +83,12 @@ fn act(reading: u64, cmd: Command) -> Row
     Row::Act { reading, cmd }
 }
 
-/// Parses a reading.
-#[tactic(auto, unfolding(crate::specs::Rows::plain_of))]
-fn read_plain(row: u64, fields: &Records<'_>) -> Result<u64, ScriptError>
-    ensures { result ≡ spec.plain_of row (fields_of fields.now) }
-{
-    if fields.len() != 2 {
-        return Err(ScriptError::Fields { row });
-    }
-    number_at(row, fields, 1)
-}
-
 /// Parses a reading and a time.
 #[tactic(auto, unfolding(crate::specs::Rows::timed_of))]
 fn read_timed(row: u64, fields: &Records<'_>) -> Result<(u64, Timespec), ScriptError>
     ensures { result ≡ spec.timed_of row (fields_of fields.now) }
 {
-    if fields.len() != 4 {
-        return Err(ScriptError::Fields { row });
-    }
-    let reading = number_at(row, fields, 1)?;
-    let time = time_at(row, fields, 2)?;
-    Ok((reading, time))
+    Ok((reading_of(row, fields, 4)?, time_at(row, fields, 2)?))
 }
 
 /// Parses a reading and a signed number.
@@ -110,12 +96,7 @@ fn read_timed(row: u64, fields: &Records<'_>) -> Result<(u64, Timespec), ScriptE
 fn read_valued(row: u64, fields: &Records<'_>) -> Result<(u64, i64), ScriptError>
     ensures { result ≡ spec.valued_of row (fields_of fields.now) }
 {
-    if fields.len() != 3 {
-        return Err(ScriptError::Fields { row });
-    }
-    let reading = number_at(row, fields, 1)?;
-    let value = signed_at(row, fields, 2)?;
-    Ok((reading, value))
+    Ok((reading_of(row, fields, 3)?, signed_at(row, fields, 2)?))
 }
 
 /// Parses a reading and a clock, and the value that is expected, if there is a further field.
@@ -152,10 +133,7 @@ fn read_expected(row: u64, fields: &Records<'_>) -> Result<Option<u64>, ScriptEr
 fn read_change(row: u64, fields: &Records<'_>) -> Result<Row, ScriptError>
     ensures { result ≡ spec.change_of row (fields_of fields.now) }
 {
-    if fields.len() != 6 {
-        return Err(ScriptError::Fields { row });
-    }
-    let reading = number_at(row, fields, 1)?;
+    let reading = reading_of(row, fields, 6)?;
     let bits = number32_at(row, fields, 2)?;
     let mult = number32_at(row, fields, 3)?;
     let shift = number32_at(row, fields, 4)?;

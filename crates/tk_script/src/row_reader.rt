@@ -62,7 +62,7 @@ impl<'a> RowReader<'a> {
             (λ row. Steps row self.old self.new)
             (λ error. Fails error (coming self.old)) }
     {
-        if let Some(row) = self.records.take_row() {
+        if let Some(row) = self.records.take() {
             self.row += 1;
             return Ok(Some(row));
         }

@@ -79,7 +79,7 @@ fn next_stamp(row: u64, records: &mut Records<'_>) -> Result<Option<(u64, u64)>,
         (λ found. NextGives (spec.stamp_of row) rs found (left_in records.new))
         (λ error. NextFails (spec.stamp_of row) rs error) }
 {
-    if let Some(item) = records.take_stamp() {
+    if let Some(item) = records.take() {
         return Ok(Some(item));
     }
     if !records.advance()? {

@@ -14,7 +14,7 @@ returns-in-Some c =
     let took = c.in-Some.ensures.some in
     let next = took.1 left.0 left.1 in
     let takes = next.1 in
-    let new : RowReader = record { records = c.take_row.new.self; row = old.row + 1 } in
+    let new : RowReader = record { records = c.take.new.self; row = old.row + 1 } in
     let one = left-row old new left.0 takes.0 next.0 left.1 takes.1 takes.2 in (
       ready-row old new takes.0 c.requires one took.0 takes.2 refl,
       one,
