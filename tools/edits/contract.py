@@ -1,9 +1,13 @@
 """The clauses of a crate's functions and types, by the names that an edit's line `clause:` gives."""
+import collections
+import functools
 import re
 
 from edits import source
 
 CLAUSE = re.compile(r"\b(?:requires|ensures) (\w* ?)\{")
+# the first line of an impl or a trait
+TYPE = re.compile(r"(?:pub )?(?:unsafe )?(?:impl|trait)\b")
 
 
 def states(contract, name):
@@ -24,14 +28,20 @@ def contract_of(lines, first):
     return "\n".join(lines[first:next(ends, first) + 1])
 
 
-def blocks(text, name):
-    """Yields the contract of each function, and each impl and trait, that has this name."""
-    lines = text.split("\n")
-    for first, line in enumerate(lines):
-        if (head := source.FUNCTION.match(line)) and head[2] == name:
-            yield contract_of(lines, first)
-        elif re.match(rf"(?:pub )?(?:unsafe )?(?:impl|trait)\b.*\b{name}\b", line):
-            yield "\n".join(lines[first:source.end_of(lines, first) + 1])
+@functools.cache
+def blocks(folder):
+    """Returns the contract of each function of a crate, and each impl and trait, by their names."""
+    found = collections.defaultdict(list)
+    for path in sorted((folder / "src").rglob("*.rt")):
+        lines = path.read_text(encoding="utf-8").split("\n")
+        for first, line in enumerate(lines):
+            if head := source.FUNCTION.match(line):
+                found[head[2]].append(contract_of(lines, first))
+            elif TYPE.match(line):
+                block = "\n".join(lines[first:source.end_of(lines, first) + 1])
+                for name in set(re.findall(r"\w+", line)):
+                    found[name].append(block)
+    return found
 
 
 def is_stated(crate, name, owner):
@@ -39,9 +49,6 @@ def is_stated(crate, name, owner):
 
     A type's clause is a ghost member of one of its impls, as `invariant`, or a clause of its trait.
     """
-    for folder in (crate, *sorted(crate.parent.iterdir())):
-        for path in sorted((folder / "src").rglob("*.rt")):
-            for block in blocks(path.read_text(encoding="utf-8"), owner):
-                if states(block, name) or re.search(rf"\bghost {name} =", block):
-                    return True
-    return False
+    return any(states(block, name) or re.search(rf"\bghost {name} =", block)
+               for folder in (crate, *sorted(crate.parent.iterdir()))
+               for block in blocks(folder).get(owner, ()))
