@@ -119,6 +119,13 @@ def crates():
     return {name: Crate(name, " ".join(kind), tuple(uses)) for (name, *kind), uses in heads}
 
 
+def product():
+    """Returns the crates of the product: the part of crates.txt with this heading."""
+    text = (ROOT / "crates.txt").read_text(encoding="utf-8")
+    lines = text.partition("# The product")[2].partition("\n#")[0].splitlines()[1:]
+    return [crates()[it.partition(":")[0].split()[0]] for it in lines]
+
+
 def prove(crate, libraries):
     """Builds a crate unless it is built, with a line that says so. Returns whether it is proved."""
     if crate.is_built(libraries):

@@ -23,12 +23,18 @@ class MustFail(Case):
         self.stand_in("rt", f'echo "rattle-kit-99z logic {LOGIC}"')
         self.top = self.copy()
         (self.top / "crates.txt").write_text("low:\n", encoding="utf-8")
+        self.list_functions()
         self.write("src/lib.rt", SOURCE)
 
     def write(self, name, text):
         path = self.top / "crates" / "low" / name
         path.parent.mkdir(parents=True, exist_ok=True)
         path.write_text(text, encoding="utf-8")
+
+    def list_functions(self, *lines):
+        """Lists functions without a wrong body, each with its reason."""
+        path = self.top / "tools" / "edits" / "no_wrong_body.txt"
+        path.write_text("".join(f"{it}\n" for it in lines), encoding="utf-8")
 
     def tried(self, rattle):
         """Tries the edits with a rattle of this script. Returns the status and the sorted lines."""
@@ -147,3 +153,51 @@ class MustFail(Case):
         self.assertEqual("", self.listed())
         self.assertEqual("crates/low/must-fail-together/second.edit: it names no clause\n",
                          self.listed("value"))
+
+    def gaps(self, *more):
+        """Returns the errors of `--apply` with the edit `first` if `low` is of the product."""
+        (self.top / "crates.txt").write_text("# The product\nlow:\n# Tests\n", encoding="utf-8")
+        self.write("must-fail-together/first.edit", FIRST)
+        status, _, errors = self.run_tool("tools/must_fail", "--apply", *more, top=self.top)
+        self.assertEqual(1 if errors else 0, status)
+        return errors.splitlines()
+
+    def test_each_public_function_of_the_product_has_an_edit_of_its_body(self):
+        second = "crates/low/src/lib.rt: no edit changes the body of low::Clock::second"
+        self.assertEqual([second], self.gaps())
+        self.assertEqual([second], self.gaps("low"))
+        self.write("must-fail-together/second.edit", SECOND)
+        self.assertEqual([], self.gaps())
+        for head in "pub const fn second", 'pub extern "C" fn second', "pub fn second":
+            with self.subTest(head):
+                self.write("src/lib.rt", SOURCE.replace("pub fn second", head))
+                self.write("must-fail-together/second.edit", f"file: src/lib.rt\nold: {head}\n"
+                                                             f"new: #[inline] {head}\n")
+                self.assertEqual([second], self.gaps())
+        for head in "fn second", "pub(crate) fn second":
+            with self.subTest(head):
+                self.write("src/lib.rt", SOURCE.replace("pub fn second", head))
+                (self.top / "crates/low/must-fail-together/second.edit").unlink(missing_ok=True)
+                self.assertEqual([], self.gaps())
+
+    def test_an_edit_may_put_another_body_in_front(self):
+        clause = "ensures { result ≡ record { two = 2 } }"
+        self.write("src/lib.rt", SOURCE.replace("second(&self) -> u64 {",
+                                                f"second(&self) -> u64\n        {clause}\n    {{"))
+        self.write("must-fail-together/second.edit", f"file: src/lib.rt\nold: {clause}\n"
+                                                     f"new: {clause} {{ 4 }} fn third() -> u64\n")
+        self.assertEqual([], self.gaps())
+
+    def test_a_list_names_the_functions_that_have_no_wrong_body(self):
+        self.list_functions("# a comment", "low::Clock::second: a law")
+        self.assertEqual([], self.gaps())
+        self.assertEqual([], self.gaps("low"))
+        self.list_functions("low::Clock::second: a law", "low::Clock::first: a law",
+                            "low::Clock::third: a law", "lower::second: a law")
+        listed = "tools/edits/no_wrong_body.txt: low"
+        self.assertEqual([f"{listed}::Clock::first: an edit changes its body",
+                          f"{listed}::Clock::third: it isn't a public function of the product",
+                          f"{listed}er::second: it isn't a public function of the product"],
+                         self.gaps())
+        self.list_functions("low::Clock::second:")
+        self.assertEqual([f"{listed}::Clock::second: there is no reason"], self.gaps())

@@ -85,6 +85,17 @@ class Edit:
         return frozenset(source.function_at(pair.file, text, text.find(pair.old))
                          for pair, text in self.steps({}))
 
+    @functools.cached_property
+    def bodies(self):
+        """The functions whose body a replacement changes, or puts another one in front of."""
+        found = set()
+        for pair, text in self.steps({}):
+            function = source.function_at(pair.file, text, text.find(pair.old))
+            changed = text.replace(pair.old, pair.new)
+            if function and source.body_of(text, function) != source.body_of(changed, function):
+                found.add(function)
+        return found
+
     @property
     def is_inside_functions(self):
         """Whether it changes only bodies and signatures. Other proofs rest on anything else."""

@@ -7,6 +7,8 @@ FUNCTION = re.compile(r'( *)(?:pub(?:\([^)]*\))? )?(?:const |unsafe |extern "C" 
 IMPL = re.compile(r"(?:unsafe )?impl\b(.*)")
 # a call, or a function that is passed by its path
 CALL = re.compile(r"\b(\w+)(?=\(|::<)|(?<=::)(\w+)")
+# what is in front of the brace of a clause
+CLAUSE = re.compile(r"\b(?:requires|ensures)(?: \w+)? \Z")
 
 
 @dataclasses.dataclass(frozen=True)
@@ -17,6 +19,7 @@ class Function:
     first: int
     last: int
     path: str
+    is_public: bool
 
     def is_named(self, printed):
         """Whether a check's name of a function, `crate::module::Type::name`, means this one."""
@@ -49,11 +52,12 @@ def end_of(lines, first):
     indent = re.match(" *", lines[first])[0]
     for number in range(first, len(lines)):
         line = lines[number].rstrip()
-        if line == f"{indent}}}" or number == first and line.endswith(("}", ";")):
+        if line in (f"{indent}}}", f"{indent}{{}}") or number == first and line.endswith(("}", ";")):
             return number
     return first
 
 
+@functools.cache
 def functions(file, text):
     """Returns the functions of a file. A method's name has its type in place of its module."""
     module = re.sub(r"^src/((lib|main)\.rt$)?|\.rt$", "", file).replace("/", "::")
@@ -66,8 +70,20 @@ def functions(file, text):
         elif head := FUNCTION.match(line):
             above = block if number <= last else module
             path = "::".join(it for it in (above, head[2]) if it)
-            found.append(Function(head[2], number, end_of(lines, number), path))
+            is_public = line.lstrip().startswith("pub ")
+            found.append(Function(head[2], number, end_of(lines, number), path, is_public))
     return found
+
+
+def body_of(text, function):
+    """Returns the text of a function after its contract."""
+    item = "\n".join(text.split("\n")[function.first:function.last + 1])
+    depth = 0
+    for brace in re.finditer("[{}]", item):
+        if depth == 0 and not CLAUSE.search(item, 0, brace.start()):
+            return item[brace.start():]
+        depth += 1 if brace[0] == "{" else -1
+    return ""
 
 
 def function_at(file, text, place):
