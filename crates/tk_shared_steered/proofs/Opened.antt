@@ -19,7 +19,9 @@ use Rattle.tk_ntp.specs.Followed.{HasFollowed, followed}
 use Rattle.tk_ntp.specs.SteeredClock.{SteeredClock, steered_opened, steered_refusal}
 use Rattle.tk_shared.specs.Callers.{HasRead, Known, entry_of}
 use Rattle.tk_shared_steered.specs.Given.{IsGiven}
-use Rattle.tk_shared_steered.specs.Opened.{IsOpenedAs, shown_refusal}
+use Rattle.tk_shared_steered.specs.declared.fault.SteeringFault.{SteeringFault}
+use Rattle.tk_shared_steered.specs.declared.fault.SteeringFault.TheVariants.{Refused, Foreign}
+use Rattle.tk_shared_steered.specs.Opened.{IsNotShown, IsOpenedAs, IsShown, IsUnopened, Late, Unsound, shown_refusal}
 use Rattle.tk_shared_steered.specs.Owner.{IsInStep, owner_of}
 use Rattle.tk_shared_steered.proofs.Given.{accepted_last}
 use Rattle.tk_shared_steered.proofs.Steps.{accepts, follows}
@@ -112,6 +114,24 @@ opened_as hz old middle new snapshot real reading before after result r none sam
       informed = given.informed;
       id = given.id ∙ r.id;
     }
+
+-- the same, when the snapshot shows the clocks
+pub given_as : (hz : ℕ) (old middle new : Known) (snapshot : Snapshot) (reading : ℕ)
+    (before after : SteeredClock) (result : Result ⊤ Refusal) → HasRead old middle snapshot →
+    IsShown hz snapshot before → IsGiven Update reading middle new →
+    HasFollowed (state_refusal before.clock reading Update) (followed reading Update before) before
+    result after →
+    IsOpenedAs hz old new after
+given_as hz old middle new snapshot reading before after result read h given =
+    opened_as hz old middle new snapshot h.real reading before after result read h.none h.same
+    h.sound h.clock_is given
+
+-- no discipline is opened on clocks that the snapshot doesn't show
+pub unshown : (hz : ℕ) (old new : Known) (snapshot : Snapshot) (fault : SteeringFault) →
+    HasRead old new snapshot → IsNotShown hz snapshot fault → IsUnopened hz old new fault
+unshown hz old new snapshot Foreign read h = Late snapshot read h
+unshown hz old new snapshot (Refused refusal) read h =
+    Unsound refusal (record { snapshot = snapshot; read = read; none = h.0 }) h.1
 
 -- they leave the owner's clocks in step
 pub open_in_step : (hz : ℕ) (old new : Known) (clock : SteeredClock) (count : ℕ) →

@@ -7,7 +7,7 @@ use Rattle.tk_clock.specs.declared.timespec.Timespec.{Timespec}
 use Rattle.tk_clock.specs.Journal.{followed_by, opened}
 use Rattle.tk_clock.specs.Snapshot.{Snapshot}
 use Rattle.tk_clock.specs.State.{ReadBase}
-use Rattle.tk_clock.specs.Time.{timespec_of}
+use Rattle.tk_clock.specs.Time.{nanoseconds, timespec_of}
 use Rattle.tk_ntp.specs.Followed.{followed}
 use Rattle.tk_ntp.specs.SteeredClock.{SteeredClock, steered_opened, steered_refusal}
 use Rattle.tk_shared.specs.Callers.{HasRead, Known, IsInformed, entry_of}
@@ -40,6 +40,21 @@ pub record HasOpened (hz : ℕ) (old : Known) (owner : Owner) : Type 0 where
 abbrev pub shown_refusal : ReadBase → ℕ → Option Refusal
 shown_refusal base hz =
     steered_refusal base.counter base.last (timespec_of (unsigned_abs base.real_offset)) hz
+
+-- clocks with a fresh discipline, opened as a snapshot before any command shows them
+pub record IsShown (hz : ℕ) (snapshot : Snapshot) (clock : SteeredClock) : Type 0 where
+  pub real : Timespec
+  pub none : snapshot.front ≡ 0
+  pub same : nanoseconds real ≡ snapshot.base.real_offset
+  pub sound : steered_refusal snapshot.base.counter snapshot.base.last real hz ≡ None
+  pub clock_is : clock ≡ steered_opened snapshot.base.counter snapshot.base.last real hz
+  pub shown : shown_refusal snapshot.base hz ≡ None
+
+-- why they can't be opened: a command was accepted before, or the clocks are refused
+abbrev pub IsNotShown : ℕ → Snapshot → SteeringFault → Type 0
+IsNotShown hz snapshot Foreign = 0 < snapshot.front
+IsNotShown hz snapshot (Refused refusal) =
+    (snapshot.front ≡ 0) × (shown_refusal snapshot.base hz ≡ Some refusal)
 
 -- a caller read the page before any command was accepted
 pub record HasSeenNone (old new : Known) : Type 0 where

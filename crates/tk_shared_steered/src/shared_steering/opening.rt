@@ -1,13 +1,13 @@
 //! Opens a discipline over the clocks of a shared keeper.
 ghost use Rattle.std.specs.Prelude.{◌≡◌, pos, MatchResult};
 ghost use Rattle.tk_clock.specs.Time.{nanoseconds, timespec_of};
-ghost use Rattle.tk_shared_steered.specs.Opened.{HasOpened, IsOpenedAs, IsUnopened};
+ghost use Rattle.tk_shared_steered.specs.Opened.{HasOpened, IsNotShown, IsShown, IsUnopened};
 
 use super::SharedSteering;
 use crate::fault::{SteeringFault, Unsteered};
 use crate::giving::give;
 use std::sync::Wait;
-use tk_clock::{Command, Timespec};
+use tk_clock::{Command, Snapshot, Timespec};
 use tk_counter::NANOS_PER_SECOND;
 use tk_ntp::SteeredClock;
 use tk_shared::{Caller, Counter, Named, SharedKeeper};
@@ -36,8 +36,14 @@ impl<L: Named> SharedSteering<L> {
             (λ unsteered. IsUnopened hz caller unsteered.caller unsteered.fault) }
     {
         let mut caller = caller;
-        match opened(rt, keeper, &mut caller, hz) {
-            Ok(clock) => {
+        let now = keeper.read(rt, &mut caller);
+        let mut clock = match shown(&now, hz) {
+            Ok(clock) => clock,
+            Err(fault) => return Err(Unsteered { fault, caller }),
+        };
+        match give(rt, keeper, &mut caller, Command::Update) {
+            Ok(reading) => {
+                let _accepted = clock.follow_command(reading, Command::Update);
                 let count = caller.front();
                 Ok(SharedSteering {
                     caller,
@@ -50,34 +56,20 @@ impl<L: Named> SharedSteering<L> {
     }
 }
 
-/// Opens the clocks of a keeper before any command, with a fresh discipline, and gives them an
-/// update.
-fn opened<L: Named, C: Counter, R: Wait>(
-    rt: &R,
-    keeper: &SharedKeeper<L, C>,
-    caller: &mut Caller<L>,
-    hz: u32,
-) -> Result<SteeredClock, SteeringFault>
+/// Opens clocks with a fresh discipline, as a snapshot shows them before any command.
+fn shown(now: &Snapshot, hz: u32) -> Result<SteeredClock, SteeringFault>
     ensures answer { MatchResult result
-        (λ clock. IsOpenedAs hz caller.old caller.new clock)
-        (λ fault. IsUnopened hz caller.old caller.new fault) }
+        (λ clock. IsShown hz now.now clock)
+        (λ fault. IsNotShown hz now.now fault) }
 {
-    let now = keeper.read(rt, caller);
     if now.front() != 0 {
         return Err(SteeringFault::Foreign);
     }
-    let mut clock = match SteeredClock::open(
-        now.desc(),
-        now.last(),
-        time_of(now.real_offset()),
-        hz,
-    ) {
-        Ok(clock) => clock,
-        Err(refusal) => return Err(SteeringFault::Refused(refusal)),
-    };
-    let reading = give(rt, keeper, caller, Command::Update)?;
-    let _accepted = clock.follow_command(reading, Command::Update);
-    Ok(clock)
+    let real = time_of(now.real_offset());
+    match SteeredClock::open(now.desc(), now.last(), real, hz) {
+        Ok(clock) => Ok(clock),
+        Err(refusal) => Err(SteeringFault::Refused(refusal)),
+    }
 }
 
 /// Returns a number of nanoseconds as a time.

@@ -1,16 +1,40 @@
 use Rattle.std.proofs.Common.{sym}
-use Rattle.tk_shared_steered.proofs.Opened.{open_in_step}
+use Rattle.tk_shared_steered.specs.Opened.{NotGiven}
+use Rattle.tk_shared_steered.proofs.Opened.{given_as, open_in_step, unshown}
 use Rattle.tk_shared_steered.proofs.shared_steering.SharedSteering.open.Goals as goal
+
+pub returns-in-Err : goal.returns-in-Err
+returns-in-Err g c = record {
+  answer = unshown c.args.hz c.args.caller c.read-now.new.caller c.read-now.result c.in-Err.fault
+      c.read-now.ensures.read c.in-Err.ensures.answer;
+}
 
 pub invariant_of-result : goal.invariant_of-result
 invariant_of-result g c = λ following.
-    open_in_step c.args.hz c.args.caller c.opened.new.caller c.in-Ok.clock c.front-count.result
-    c.in-Ok.ensures.answer
+    open_in_step c.args.hz c.args.caller c.give.new.caller c.follow_command-accepted.new.self
+    c.front-count.result
+    (given_as c.args.hz c.args.caller c.read-now.new.caller c.give.new.caller c.read-now.result
+    c.in-Ok-give.reading c.in-Ok.clock c.follow_command-accepted.new.self
+    c.follow_command-accepted.result c.read-now.ensures.read c.in-Ok.ensures.answer
+    c.in-Ok-give.ensures.answer c.follow_command-accepted.ensures.answer)
 
-pub returns-in-Ok : goal.returns-in-Ok
-returns-in-Ok g c = record {
-  answer = record { clocks = c.in-Ok.ensures.answer; following = sym c.front-count.ensures };
+pub returns-in-Ok-give : goal.returns-in-Ok-give
+returns-in-Ok-give g c = record {
+  answer = record {
+    clocks =
+        given_as c.args.hz c.args.caller c.read-now.new.caller c.give.new.caller c.read-now.result
+        c.in-Ok-give.reading c.in-Ok.clock c.follow_command-accepted.new.self
+        c.follow_command-accepted.result c.read-now.ensures.read c.in-Ok.ensures.answer
+        c.in-Ok-give.ensures.answer c.follow_command-accepted.ensures.answer;
+    following = sym c.front-count.ensures;
+  };
 }
 
-pub returns-in-Err : goal.returns-in-Err
-returns-in-Err g c = record { answer = c.in-Err.ensures.answer }
+pub returns-in-Err-give : goal.returns-in-Err-give
+returns-in-Err-give g c = record {
+  answer = NotGiven c.in-Err-give.fault c.read-now.new.caller (record {
+    snapshot = c.read-now.result;
+    read = c.read-now.ensures.read;
+    none = c.in-Ok.ensures.answer.none;
+  }) c.in-Ok.ensures.answer.shown c.in-Err-give.ensures.answer;
+}
