@@ -29,6 +29,7 @@ mod reports_text;
 mod running;
 mod scripts;
 mod tracing;
+mod writing;
 
 pub use arguments::Arguments;
 pub use ending::Ending;

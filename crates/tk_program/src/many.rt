@@ -2,17 +2,18 @@
 ghost use Rattle.std.specs.Prelude.{◌≡◌, ◌≤◌, is_ok};
 ghost use Rattle.std.specs.List.{list_all};
 ghost use Rattle.tk_pieces.specs.Workers.{most_workers};
-ghost use Rattle.tk_program.specs.Many.{EndsMany, EndsTelling, ending_of_outcomes, is_agreeing};
+ghost use Rattle.tk_program.specs.Many.{EndsMany, EndsReplays, EndsTelling, ending_of_outcomes, is_agreeing};
 
 use crate::ending::Ending;
 use crate::files::read_files;
 use crate::folder::Folder;
 use crate::reports_text::many_text;
+use crate::writing::write_text;
 use std::alloc::Global;
 use std::sync::Wait;
 use std::thread::Threads;
 use tk_race::NoGate;
-use tk_report::{CheckedReport, Fault, Sink, replay_all, write_whole};
+use tk_report::{CheckedReport, Fault, Sink, replay_all};
 use tk_script::ScriptError;
 
 /// Reads all files, makes the reports of their scripts on `workers` threads, and writes them.
@@ -30,11 +31,25 @@ pub(crate) fn answer<E: Threads + Wait + Sync, D: Folder, W: Sink>(
         D.Folder.open_gives D.File.Read.remaining D.File.Source.read_gives folder.now
         files.now result }
 {
-    let scripts = match read_files(alloc, folder, files) {
-        Ok(scripts) => scripts,
-        Err(fault) => return Ending::Fault(fault),
-    };
-    match replay_all(alloc, rt, scripts.as_slice(), workers as usize, &NoGate) {
+    match read_files(alloc, folder, files) {
+        Ok(texts) => replay_texts(alloc, rt, writer, workers, texts.as_slice()),
+        Err(fault) => Ending::Fault(fault),
+    }
+}
+
+/// Makes the reports of the scripts with these texts, and writes them.
+fn replay_texts<E: Threads + Wait + Sync, W: Sink>(
+    alloc: Global,
+    rt: &E,
+    writer: &mut W,
+    workers: u64,
+    texts: &[Vec<u8>],
+) -> Ending
+    requires { (1 ≤ workers) × (workers ≤ most_workers) }
+    ensures { EndsReplays W.Write.contents W.Sink.write_gives W.Sink.flush_gives
+        writer.old writer.new texts.now result }
+{
+    match replay_all(alloc, rt, texts, workers as usize, &NoGate) {
         Ok(outcomes) => write_reports(alloc, writer, outcomes.as_slice()),
         Err(error) => Ending::Many(error),
     }
@@ -50,13 +65,9 @@ fn write_reports<W: Sink>(
     ensures { EndsTelling W.Write.contents W.Sink.write_gives W.Sink.flush_gives
         writer.old writer.new outcomes.now result }
 {
-    let text = match many_text(alloc, outcomes) {
-        Ok(text) => text,
-        Err(_) => return Ending::Fault(Fault::Memory),
-    };
-    match write_whole(writer, text.as_slice()) {
-        Ok(()) => ending_of(outcomes),
-        Err(written) => Ending::Fault(Fault::Write { written }),
+    match many_text(alloc, outcomes) {
+        Ok(text) => write_text(writer, text.as_slice(), ending_of(outcomes)),
+        Err(_) => Ending::Fault(Fault::Memory),
     }
 }
 

@@ -10,11 +10,12 @@ use crate::openings::same_opening;
 use crate::race_lines::race_text;
 use crate::racer::Racer;
 use crate::scripts::read_scripts;
+use crate::writing::write_text;
 use std::alloc::{AllocError, Global};
 use std::sync::Wait;
 use std::thread::Threads;
 use tk_race::{Action, NoGate, RaceError, RaceReport, race};
-use tk_report::{Fault, Sink, write_whole};
+use tk_report::{Fault, Sink};
 use tk_script::Row;
 
 /// Reads and parses the files, races an actor for each script, and writes the result.
@@ -120,13 +121,9 @@ fn write_race<W: Sink>(alloc: Global, writer: &mut W, report: &RaceReport) -> En
         writer.old writer.new
         report.now.keeper.journal (map (λ r. r.items) report.now.replies.items) result }
 {
-    let text = match race_text(alloc, report) {
-        Ok(text) => text,
-        Err(fault) => return Ending::Fault(fault),
-    };
-    match write_whole(writer, text.as_slice()) {
-        Ok(()) => Ending::Done,
-        Err(written) => Ending::Fault(Fault::Write { written }),
+    match race_text(alloc, report) {
+        Ok(text) => write_text(writer, text.as_slice(), Ending::Done),
+        Err(fault) => Ending::Fault(fault),
     }
 }
 
