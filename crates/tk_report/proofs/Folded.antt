@@ -81,7 +81,7 @@ replied whole kept after entry result alike room answered enough =
     )
 
 -- only an answer other than an allocation failure must be the reply's answer
-by_answer : (reply : Reply) (result : Result ℕ Refusal) (after : Journal) →
+pub by_answer : (reply : Reply) (result : Result ℕ Refusal) (after : Journal) →
     ((result ≡ Err Memory → ⊥) → (reply.answer ≡ result) × IsAlike after reply.journal) →
     IsReplied reply result after
 by_answer reply (Ok number) after stated = stated (λ e. cc e)
@@ -101,34 +101,15 @@ IsReplied-folded whole kept after entry result alike room answered =
     by_answer (reply_by clock_refusal whole entry) result after.journal
     (replied whole kept after entry result alike room answered)
 
--- while fewer commands were accepted over a counter than a journal lists, the journal isn't full,
--- and the count doesn't refuse a command
-counted_room : (since : ℕ) (journal : Journal) → since ≤ journal.opening.count →
-    accepted_count journal - since < listed_most → accepted_count journal < counted_most →
-    is_full journal ≡ false
-counted_room since journal opens few counted =
-    let listed : length journal.entries < listed_most = omega (arith, opens, few) in
-    grind (arith, common_steps)
-
-counted_clock : (since : ℕ) (journal : Journal) (entry : Entry) →
+-- while fewer commands were accepted over a counter than a journal lists, the count doesn't refuse
+-- a command
+pub counted_clock : (since : ℕ) (journal : Journal) (entry : Entry) →
     accepted_count journal - since < listed_most →
     reply_by clock_refusal journal entry ≡ reply_by (counted_refusal since) journal entry
 counted_clock since journal entry few =
     ap (λ (b : Bool).
     reply_if journal entry (if b then Some Full else clock_refusal journal entry))
     (sym (lt-leb listed_most (accepted_count journal - since) few))
-
-pub IsReplied-counted : (since : ℕ) (whole : Journal) (kept after : Keeper) (entry : Entry)
-    (result : Result ℕ Refusal) →
-    IsAlike kept.journal whole → since ≤ kept.journal.opening.count →
-    accepted_count whole - since < listed_most → accepted_count whole < counted_most →
-    IsAnswer kept entry result after →
-    IsReplied (reply_by (counted_refusal since) whole entry) result after.journal
-IsReplied-counted since whole kept after entry result alike opens few counted answered =
-    let room = counted_room since kept.journal opens (omega (arith, few, alike.count))
-    (omega (arith, counted, alike.count)) in
-    subst (λ (r : Reply). IsReplied r result after.journal) (counted_clock since whole entry few)
-    (IsReplied-folded whole kept after entry result alike room answered)
 
 -- an answer never lowers the number of folded commands
 pub opening-answered : (before after : Keeper) (entry : Entry) (answer : Result ℕ Refusal) →

@@ -12,6 +12,7 @@ pub mod Traces
 mod Worked
 pub mod Outcomes
 pub mod Beginnings
+pub mod CountedClocks
 pub mod SteeredLines
 pub mod Starts
 pub mod Replies

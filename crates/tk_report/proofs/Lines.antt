@@ -26,7 +26,7 @@ use Rattle.tk_report.specs.Folding.{IsReplied, counting_rule_of, rule_of, since_
 use Rattle.tk_report.specs.Report.{Rule, IsLine, IsLines, IsPlainReportOfRows, IsTimeAt, after, answer_line, change_if, difference, differences, differences_of, differs_text, event, missed, reply_line}
 use Rattle.tk_report.specs.Reports.{IsReportBy, IsReportOfRows}
 use Rattle.tk_clock.specs.Folding.{IsAlike}
-use Rattle.tk_clock.proofs.Alike.{IsAlike-self, clock_value-alike}
+use Rattle.tk_clock.proofs.Alike.{clock_value-alike}
 use Rattle.tk_report.proofs.Alike.{IsAlike-after, IsLine-alike, missed-alike, since-alike}
 use Rattle.tk_report.proofs.Counted.{after-counted, line-counted, opening_after}
 
@@ -111,12 +111,13 @@ pub record IsBegunBy (keep : Option ℕ) (start : Start) (all : Rows) (number fo
   pub begun : IsBegun (rule_of keep) start all number found whole to_come text
 
 -- after the opening's line, all rows remain
-pub IsBegunBy-start : (keep : Option ℕ) (start : Start) (all : Rows) →
-    IsBegunBy keep start all 2 0 (journal_at start) (journal_at start).opening.count all
+pub IsBegunBy-start : (keep : Option ℕ) (start : Start) (all : Rows) (kept : Journal) →
+    IsAlike kept (journal_at start) →
+    IsBegunBy keep start all 2 0 kept (journal_at start).opening.count all
     (open_line (journal_at start).opening.counter)
-IsBegunBy-start keep start all = record {
+IsBegunBy-start keep start all kept alike = record {
   whole = journal_at start;
-  alike = IsAlike-self (journal_at start);
+  alike = alike;
   opens = refl;
   begun = record {
     gives = λ rows rest e lines. (_, ap (opened_with start) e, (rest, lines, refl));

@@ -7,28 +7,27 @@ ghost use Rattle.tk_keeper.specs.Read.{read_fault};
 ghost use Rattle.tk_script.specs.Coming.{IsReady, coming, opened_with};
 ghost use Rattle.tk_script.specs.Lines.{IsWritable};
 ghost use Rattle.tk_script.specs.Grammar.{Fails, parse_of};
-ghost use Rattle.tk_script.specs.Start.{IsOpenable};
+ghost use Rattle.tk_script.specs.Start.{IsOpenable, journal_at};
 ghost use Rattle.tk_clock.specs.Folding.{IsAlike};
 ghost use Rattle.tk_report.specs.Folding.{counting_rule_of, rule_of, since_after, since_answer};
 ghost use Rattle.tk_report.specs.Report.{IsLine, IsLookLine, IsPlainReportOfRows, after, change_reply, difference, differences_of, differs_text, event, missed, missed_at, missed_if, reply_by, reply_line};
 ghost use Rattle.tk_report.specs.Reports.{IsReport, IsReportBy, IsReportUnlimited};
 
-use crate::applying::apply;
-use crate::beginning::keeper_at;
+use crate::beginning::commands_before;
 use crate::checked_report::CheckedReport;
+use crate::report_clocks::{Readable, ReportClocks};
 use crate::row_reporting::report_rows;
 use std::alloc::{Allocator, Global};
 use tk_clock::{ClockId, Command, Refusal, Timespec};
 use tk_counter::{CounterDesc, NANOS_PER_SECOND};
-use tk_keeper::Timekeeper;
 use tk_script::{
     Calendar, Row, RowReader, ScriptError, Start, line_differs, line_no, line_ok, line_open,
 };
 
 /// The clocks of a script.
 #[derive(Drop)]
-struct Clocks<A: Allocator> {
-    keeper: Timekeeper<A>,
+struct Clocks<C> {
+    kept: C,
     /// The number of commands before the present counter: those before the script's beginning, or
     /// the number of its change.
     since: usize,
@@ -87,31 +86,34 @@ pub(crate) fn report_by(
     report_rows(alloc, start, &mut rows, keep)
 }
 
-/// Makes the report of `report_rows` for clocks that no discipline steers.
-pub(crate) fn report_plain<A: Allocator + Copy>(
+/// Makes the report of `report_rows` for the clocks `begun`, with which the script begins, and which
+/// no discipline steers.
+pub(crate) fn report_plain<A: Allocator + Copy, C: ReportClocks + Drop>(
     alloc: A,
     start: Start,
+    begun: C,
     rows: &mut RowReader<'_>,
-    keep: Option<u64>,
 ) -> Result<CheckedReport<A>, ScriptError>
     requires opens { IsOpenable start }
+    requires begins { IsAlike (C.Readable.journal begun) (journal_at start) }
+    requires opening { (journal_at start).opening.count
+        ≤ (C.Readable.journal begun).opening.count }
     requires ready { IsReady rows.old }
-    requires keep { ForSome keep (λ n. n ≤ most_kept) }
-    ensures { MatchResult result
-        (λ report. IsPlainReportOfRows (rule_of keep) start (coming rows.old) report.text.items
-        × (report.differences ≡ differences_of (rule_of keep) (opened_with start (coming rows.old))))
+    requires keep { ForSome (C.ReportClocks.keep begun) (λ n. n ≤ most_kept) }
+    ensures { let rule = rule_of (C.ReportClocks.keep begun) in MatchResult result
+        (λ report. IsPlainReportOfRows rule start (coming rows.old) report.text.items
+        × (report.differences ≡ differences_of rule (opened_with start (coming rows.old))))
         (λ error. Fails error (coming rows.old)) }
 {
-    let keeper = keeper_at(alloc, start);
-    let (desc, since) = (keeper.snapshot().desc(), keeper.len());
-    let mut clocks = Clocks { keeper, since };
+    let (desc, since) = (begun.snapshot().desc(), commands_before(start));
+    let mut clocks = Clocks { kept: begun, since };
     let mut calendar = Calendar::new(alloc);
     let mut text = Vec::new(alloc);
     let (mut number, mut differences) = (1u64, 0u64);
     line_open(&mut text, &desc)?;
     'rows: while let Some(row) = rows.next_row()? {
         number += 1;
-        let missed = add_line(&mut text, &mut calendar, &mut clocks, keep, row)?;
+        let missed = add_line(&mut text, &mut calendar, &mut clocks, row)?;
         let more = add_difference(&mut text, number, missed)?;
         differences += more;
     }
@@ -122,38 +124,42 @@ pub(crate) fn report_plain<A: Allocator + Copy>(
 /// appends the line. Returns the expected value that the read does not give, in ns, if there is
 /// one.
 #[inline(always)]
-fn add_line<A: Allocator + Copy>(
+fn add_line<A: Allocator + Copy, C: ReportClocks>(
     text: &mut Vec<u8, A>,
     calendar: &mut Calendar<A>,
-    clocks: &mut Clocks<A>,
-    keep: Option<u64>,
+    clocks: &mut Clocks<C>,
     row: Row,
 ) -> Result<Option<u64>, ScriptError>
-    requires count { accepted_count clocks.old.keeper.journal < counted_most }
-    requires keep { ForSome keep (λ n. n ≤ most_kept) }
-    requires opening { clocks.old.since ≤ clocks.old.keeper.journal.opening.count }
-    ensures line { let rule = counting_rule_of keep clocks.old.since in
-        OnOk result ((line : List ℕ) × IsLine rule clocks.old.keeper.journal row line
+    requires count { accepted_count (C.Readable.journal clocks.old.kept) < counted_most }
+    requires keep { ForSome (C.ReportClocks.keep clocks.old.kept) (λ n. n ≤ most_kept) }
+    requires opening { clocks.old.since ≤ (C.Readable.journal clocks.old.kept).opening.count }
+    ensures line { let rule = counting_rule_of (C.ReportClocks.keep clocks.old.kept)
+        clocks.old.since in
+        OnOk result ((line : List ℕ) × IsLine rule (C.Readable.journal clocks.old.kept) row line
         × (text.new.items ≡ text.old.items ++ line)) }
-    ensures missed { IfOk result (λ value. value ≡ missed clocks.old.keeper.journal row) }
-    ensures after { let rule = counting_rule_of keep clocks.old.since in
-        OnOk result (IsAlike clocks.new.keeper.journal
-        (after rule clocks.old.keeper.journal row)) }
+    ensures missed { IfOk result (λ value.
+        value ≡ missed (C.Readable.journal clocks.old.kept) row) }
+    ensures after { let rule = counting_rule_of (C.ReportClocks.keep clocks.old.kept)
+        clocks.old.since in
+        OnOk result (IsAlike (C.Readable.journal clocks.new.kept)
+        (after rule (C.Readable.journal clocks.old.kept) row)) }
     ensures since { OnOk result (clocks.new.since
-        ≡ since_after clocks.old.since clocks.old.keeper.journal row) }
-    ensures opening { OnOk result (clocks.new.since ≤ clocks.new.keeper.journal.opening.count) }
+        ≡ since_after clocks.old.since (C.Readable.journal clocks.old.kept) row) }
+    ensures opening { OnOk result
+        (clocks.new.since ≤ (C.Readable.journal clocks.new.kept).opening.count) }
+    ensures keep { C.ReportClocks.keep clocks.new.kept ≡ C.ReportClocks.keep clocks.old.kept }
     ensures err { IfErr result (λ error. error ≡ ScriptError.Memory) }
 {
     match row {
         Row::Act { reading, cmd } => {
-            add_reply(text, clocks, keep, reading, cmd)?;
+            add_reply(text, clocks, reading, cmd)?;
             Ok(None)
         }
         Row::Look {
             reading,
             clock,
             expected,
-        } => add_look(text, calendar, &clocks.keeper, reading, clock, expected),
+        } => add_look(text, calendar, &clocks.kept, reading, clock, expected),
         Row::Change {
             reading,
             desc,
@@ -193,28 +199,30 @@ pub(crate) fn add_difference<A: Allocator>(
 
 /// Applies a command and appends its line. The line of an accepted command gives MONOTONIC at the
 /// reading to which the command brought the clocks forward.
-fn add_reply<A: Allocator + Copy>(
+fn add_reply<A: Allocator + Copy, C: ReportClocks>(
     text: &mut Vec<u8, A>,
-    clocks: &mut Clocks<A>,
-    keep: Option<u64>,
+    clocks: &mut Clocks<C>,
     reading: u64,
     cmd: Command,
 ) -> Result<(), ScriptError>
-    requires count { accepted_count clocks.old.keeper.journal < counted_most }
-    requires keep { ForSome keep (λ n. n ≤ most_kept) }
-    requires opening { clocks.old.since ≤ clocks.old.keeper.journal.opening.count }
-    ensures line { let rule = counting_rule_of keep clocks.old.since in
+    requires count { accepted_count (C.Readable.journal clocks.old.kept) < counted_most }
+    requires keep { ForSome (C.ReportClocks.keep clocks.old.kept) (λ n. n ≤ most_kept) }
+    requires opening { clocks.old.since ≤ (C.Readable.journal clocks.old.kept).opening.count }
+    ensures line { let rule = counting_rule_of (C.ReportClocks.keep clocks.old.kept)
+        clocks.old.since in
         OnOk result (text.new.items ≡ text.old.items ++ reply_line reading
-        (reply_by rule clocks.old.keeper.journal (event reading cmd))) }
-    ensures after { let rule = counting_rule_of keep clocks.old.since in
-        OnOk result (IsAlike clocks.new.keeper.journal
-        (reply_by rule clocks.old.keeper.journal (event reading cmd)).journal) }
+        (reply_by rule (C.Readable.journal clocks.old.kept) (event reading cmd))) }
+    ensures after { let rule = counting_rule_of (C.ReportClocks.keep clocks.old.kept)
+        clocks.old.since in
+        OnOk result (IsAlike (C.Readable.journal clocks.new.kept)
+        (reply_by rule (C.Readable.journal clocks.old.kept) (event reading cmd)).journal) }
     ensures since { clocks.new.since ≡ clocks.old.since }
-    ensures opening { clocks.new.since ≤ clocks.new.keeper.journal.opening.count }
+    ensures opening { clocks.new.since ≤ (C.Readable.journal clocks.new.kept).opening.count }
+    ensures keep { C.ReportClocks.keep clocks.new.kept ≡ C.ReportClocks.keep clocks.old.kept }
     ensures err { IfErr result (λ error. error ≡ ScriptError.Memory) }
 {
-    match apply(&mut clocks.keeper, keep, clocks.since, reading, cmd) {
-        Ok(number) => line_ok(text, number, clocks.keeper.monotonic()),
+    match clocks.kept.apply(clocks.since, reading, cmd) {
+        Ok(number) => line_ok(text, number, clocks.kept.monotonic()),
         Err(Refusal::Memory) => Err(ScriptError::Memory),
         Err(refusal) => line_no(text, refusal),
     }
@@ -222,23 +230,23 @@ fn add_reply<A: Allocator + Copy>(
 
 /// Reads a clock and appends its line. Returns the expected value that the read does not give.
 #[inline(always)]
-pub(crate) fn add_look<A: Allocator + Copy>(
+pub(crate) fn add_look<A: Allocator + Copy, C: Readable>(
     text: &mut Vec<u8, A>,
     calendar: &mut Calendar<A>,
-    keeper: &Timekeeper<A>,
+    clocks: &C,
     reading: u64,
     clock: ClockId,
     expected: Option<u64>,
 ) -> Result<Option<u64>, ScriptError>
     ensures line { OnOk result ((line : List ℕ)
-        × IsLookLine keeper.now.journal clock reading
-        (read_fault keeper.now.journal clock reading) line
+        × IsLookLine (C.Readable.journal clocks.now) clock reading
+        (read_fault (C.Readable.journal clocks.now) clock reading) line
         × (text.new.items ≡ text.old.items ++ line)) }
     ensures missed { IfOk result (λ value.
-        value ≡ missed_at keeper.now.journal clock reading expected) }
+        value ≡ missed_at (C.Readable.journal clocks.now) clock reading expected) }
     ensures err { IfErr result (λ error. error ≡ ScriptError.Memory) }
 {
-    match keeper.get(clock, reading) {
+    match clocks.get(clock, reading) {
         Ok(time) => {
             calendar.line_at(text, clock, time)?;
             Ok(missed_by(time, expected))
@@ -264,27 +272,28 @@ fn missed_by(time: Timespec, expected: Option<u64>) -> Option<u64>
 
 /// Changes the counter and appends the line. The line of an accepted change gives MONOTONIC at the
 /// reading from which the clocks go on over the new counter.
-fn add_change<A: Allocator + Copy>(
+fn add_change<A: Allocator + Copy, C: ReportClocks>(
     text: &mut Vec<u8, A>,
-    clocks: &mut Clocks<A>,
+    clocks: &mut Clocks<C>,
     reading: u64,
     desc: CounterDesc,
     first: u64,
 ) -> Result<(), ScriptError>
-    requires opening { clocks.old.since ≤ clocks.old.keeper.journal.opening.count }
+    requires opening { clocks.old.since ≤ (C.Readable.journal clocks.old.kept).opening.count }
     ensures line { OnOk result (text.new.items ≡ text.old.items ++ reply_line first
-        (change_reply clocks.old.keeper.journal reading desc first)) }
-    ensures after { clocks.new.keeper.journal
-        ≡ (change_reply clocks.old.keeper.journal reading desc first).journal }
+        (change_reply (C.Readable.journal clocks.old.kept) reading desc first)) }
+    ensures after { C.Readable.journal clocks.new.kept
+        ≡ (change_reply (C.Readable.journal clocks.old.kept) reading desc first).journal }
     ensures since { clocks.new.since ≡ since_answer clocks.old.since
-        (change_reply clocks.old.keeper.journal reading desc first).answer }
-    ensures opening { clocks.new.since ≤ clocks.new.keeper.journal.opening.count }
+        (change_reply (C.Readable.journal clocks.old.kept) reading desc first).answer }
+    ensures opening { clocks.new.since ≤ (C.Readable.journal clocks.new.kept).opening.count }
+    ensures keep { C.ReportClocks.keep clocks.new.kept ≡ C.ReportClocks.keep clocks.old.kept }
     ensures err { IfErr result (λ error. error ≡ ScriptError.Memory) }
 {
-    match clocks.keeper.change_counter(reading, desc, first) {
+    match clocks.kept.change_counter(reading, desc, first) {
         Ok(number) => {
             clocks.since = number as usize;
-            line_ok(text, number, clocks.keeper.monotonic())
+            line_ok(text, number, clocks.kept.monotonic())
         }
         Err(refusal) => line_no(text, refusal),
     }

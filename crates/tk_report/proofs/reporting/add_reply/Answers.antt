@@ -14,10 +14,10 @@ use Rattle.tk_report.proofs.reporting.add_reply.Goals as goal
 
 pub returns-in-Ok-clause-line : goal.returns-in-Ok-clause-line
 returns-in-Ok-clause-line g c =
-    let rule = counting_rule_of c.args.keep c.args.clocks.now.since in
-    let before = c.args.clocks.now.keeper.journal in
+    let rule = counting_rule_of (g.C.ReportClocks.keep c.args.clocks.now.kept) c.args.clocks.now.since in
+    let before = g.C.Readable.journal c.args.clocks.now.kept in
     let entry = event c.args.reading c.args.cmd in
-    let after = c.apply.new.keeper.journal in
+    let after = g.C.Readable.journal c.apply.new.self in
     let number = c.in-Ok.number in
     let time = c.monotonic.result in
     let last = last_reading-replied rule before after entry number c.in-Ok.ensures.replied in
@@ -35,6 +35,6 @@ returns-in-Ok-clause-line g c =
 
 pub line_ok-requires : goal.line_ok-requires
 line_ok-requires g c =
-    let after = c.apply.new.keeper.journal in
+    let after = g.C.Readable.journal c.apply.new.self in
     IsWritable-low (clock_value after Monotonic (last_reading after)) c.monotonic.result
     c.monotonic.ensures.value c.monotonic.ensures.below
