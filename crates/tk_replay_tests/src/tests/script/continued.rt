@@ -90,27 +90,32 @@ fn assert_fault(rt: &(impl Abort + AllocGlobal), numbers: &[u8], fault: Option<S
 
 #[test]
 fn continues_steered_clocks(rt: HostRuntime) -> Result<(), Fail> {
-    assert_continued(&rt, record(&rt, NUMBERS).as_slice())
+    let bytes = record(&rt, NUMBERS);
+    let script = Script::from_bytes(rt.alloc(), bytes.as_slice())?;
+    assert_continued(&rt, script.start);
+    Ok(())
 }
 
 #[test]
 fn continues_steered_clocks_by_fields_in_quotes(rt: HostRuntime) -> Result<(), Fail> {
     let mut bytes = record(&rt, NUMBERS);
     bytes.extend_from_slice(b"\n\"update\",\"9496540211\"\n")?;
-    assert_continued(&rt, bytes.as_slice())
+    let script = Script::from_bytes(rt.alloc(), bytes.as_slice())?;
+    assert_continued(&rt, script.start);
+    Ok(())
 }
 
 /// Stops the test unless a script continues the clocks of `CLOCKS` with the numbers `NUMBERS`.
-fn assert_continued(rt: &(impl Abort + AllocGlobal), script: &[u8]) -> Result<(), Fail> {
-    let Start::Continued { clock, front } = Script::from_bytes(rt.alloc(), script)?.start else {
-        return Err(Fail::from("continued clocks"));
+fn assert_continued(rt: &impl Abort, start: Start) {
+    let Start::Continued { clock, front } = start else {
+        assert!(rt; false);
+        return;
     };
     assert_same(rt, &front, &10);
     assert_same(rt, &clock.snapshot(front).words(), &WORDS);
     assert_same(rt, &clock.rate().frequency, &24_718_429);
     assert_same(rt, &clock.rate().tick, &10_000);
     assert_numbers(rt, clock.numbers());
-    Ok(())
 }
 
 /// Stops the test unless these are the numbers `NUMBERS`.
