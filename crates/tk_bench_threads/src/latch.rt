@@ -32,12 +32,24 @@ fn reads(latch: &Latch, reader: &mut LatchReader, usual: u64, count: u64) -> u64
     sum
 }
 
+/// Times `count` reads. Returns `None` if the host's clock fails.
+fn timed_reads<R: Hours>(
+    rt: &R,
+    latch: &Latch,
+    reader: &mut LatchReader,
+    usual: u64,
+    count: u64,
+) -> Option<Turn>
+    requires { reader.old.latch ≡ latch.now }
+{
+    timed(rt, count, || reads(latch, reader, usual, count))
+}
+
 /// Times reads while nobody publishes. Returns `None` if a call fails.
 pub fn quiet<R: Hours>(rt: &R, alloc: Global, effort: Effort) -> Option<Turn> {
     let (latch, mut desk, mut reader) = LatchDesk::open(alloc)?;
     desk.update(&latch)?;
-    let count = effort.of(READS);
-    timed(rt, count, || reads(&latch, &mut reader, 0, count))
+    timed_reads(rt, &latch, &mut reader, 0, effort.of(READS))
 }
 
 /// Publishes a thousand times a second until `enough` is set.
@@ -61,7 +73,7 @@ pub fn beside<R: Threads + Hours + Sync>(rt: &R, alloc: Global, effort: Effort) 
     at_once(
         rt,
         move |enough: &AtomicBool| publishes_slowly(rt, latch, &mut desk, enough),
-        move || timed(rt, count, || reads(latch, &mut reader, usual, count)),
+        move || timed_reads(rt, latch, &mut reader, usual, count),
     )
 }
 

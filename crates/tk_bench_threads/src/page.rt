@@ -39,12 +39,23 @@ fn reads<R: Wait>(rt: &R, page: &Page, viewer: &mut Viewer, count: u64) -> u64
     sum
 }
 
+/// Times `count` reads. Returns `None` if the host's clock fails.
+fn timed_reads<R: Wait + Hours>(
+    rt: &R,
+    page: &Page,
+    viewer: &mut Viewer,
+    count: u64,
+) -> Option<Turn>
+    requires { viewer.old.page ≡ page.now }
+{
+    timed(rt, count, || reads(rt, page, viewer, count))
+}
+
 /// Times reads while nobody publishes. Returns `None` if a call fails.
 pub fn quiet<R: Wait + Hours>(rt: &R, alloc: Global, effort: Effort) -> Option<Turn> {
     let (page, mut desk, mut viewer) = opened_page(rt, alloc)?;
     update(rt, &page, &mut desk)?;
-    let count = effort.of(READS);
-    timed(rt, count, || reads(rt, &page, &mut viewer, count))
+    timed_reads(rt, &page, &mut viewer, effort.of(READS))
 }
 
 /// Publishes a thousand times a second until `enough` is set.
@@ -71,7 +82,7 @@ pub fn beside<R: Threads + Wait + Hours + Sync>(
     at_once(
         rt,
         move |enough: &AtomicBool| publishes_slowly(rt, page, &mut desk, enough),
-        move || timed(rt, count, || reads(rt, page, &mut viewer, count)),
+        move || timed_reads(rt, page, &mut viewer, count),
     )
 }
 
