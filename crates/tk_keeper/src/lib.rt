@@ -8,6 +8,7 @@
 //! | `LISTED_LIMIT` | the most entries that a journal lists |
 //! | `KEEP_LIMIT` | the most entries that a full journal is folded to: half of `LISTED_LIMIT` |
 //! | `KEPT_EVERY` | the number of commands from one kept copy of the clocks to the next |
+//! | `time_of` | a time of whole seconds and a part below a second |
 //!
 //! Units: readings in cycles, clock times in s and ns. Entries are numbered from 1. A front is the
 //! number of commands accepted up to then. Both count the folded commands. No call waits. Only
@@ -21,5 +22,5 @@ mod timekeeper;
 mod trace_error;
 
 pub use front_error::FrontError;
-pub use timekeeper::{KEEP_LIMIT, KEPT_EVERY, LISTED_LIMIT, Timekeeper};
+pub use timekeeper::{KEEP_LIMIT, KEPT_EVERY, LISTED_LIMIT, Timekeeper, time_of};
 pub use trace_error::TraceError;

@@ -10,6 +10,8 @@ mod replaying;
 mod running;
 mod tracing;
 
+pub use latest::time_of;
+
 use crate::ring::Ring;
 use std::alloc::{Allocator, Global};
 use std::marker::Model;

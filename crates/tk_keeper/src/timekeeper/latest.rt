@@ -28,8 +28,10 @@ impl<A: Allocator + Copy> Timekeeper<A> {
     }
 }
 
-/// Makes a time of whole seconds and the part below a second, in units of `2^-shift` ns.
-fn time_of(sec: u64, frac: u64, shift: u32) -> Timespec
+/// Returns the time of `sec` whole seconds and a part below a second, in units of `2^-shift` ns,
+/// which is rounded down to ns.
+#[inline(always)]
+pub fn time_of(sec: u64, frac: u64, shift: u32) -> Timespec
     requires whole { sec < clock_end }
     requires part { frac < 10 ^ 9 * 2 ^ shift }
     requires shift { shift ≤ 32 }
