@@ -10,9 +10,8 @@ mod replaying;
 mod running;
 mod tracing;
 
-pub use latest::time_of;
-
 use crate::ring::Ring;
+pub use latest::time_of;
 use std::alloc::{Allocator, Global};
 use std::marker::Model;
 use tk_clock::{Clock, ClockId, Entry, ReadError, Snapshot, Timespec};
