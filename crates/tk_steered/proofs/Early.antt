@@ -1,10 +1,9 @@
 -- Steered clocks that take over the updates of a second later are those that take each at once.
 use Rattle.std.proofs.Common.{◌≡◌, ◌∙◌, ap, ap₂, refl, sym, subst, ℕ, zero, suc, ◌+◌, ◌-◌, ◌*◌, ◌/◌, ◌^◌, ◌<◌, ◌≤◌, Bool, true, false, not, Some, None, arith}
-use Rattle.std.specs.Prelude.{ℤ, pos, negsuc, ◌+ℤ◌, ◌*ℤ◌, ◌<ℤ◌, ◌≤ℤ◌, ◌||◌, nat_lt, int_lt, unsigned_abs, if◌then◌else◌}
+use Rattle.std.specs.Prelude.{ℤ, pos, ◌+ℤ◌, ◌<ℤ◌, ◌≤ℤ◌, ◌||◌, nat_lt, int_lt, unsigned_abs, if◌then◌else◌}
 use Rattle.std.proofs.lemmas.Bool.{le-ltb}
-use Rattle.std.proofs.lemmas.Int.{ints, clamps}
+use Rattle.std.proofs.lemmas.Int.{ints}
 use Rattle.std.proofs.lemmas.Nat.{pow_pos}
-use Rattle.std.proofs.Math.IntN.{zero-*ℤ, *ℤ-zero}
 use Rattle.tk_clock.specs.declared.clock_id.ClockId.TheVariants.{Realtime}
 use Rattle.tk_clock.specs.declared.command.Command.TheVariants.{Update}
 use Rattle.tk_clock.specs.declared.refusal.ReadError.TheVariants.{Invalid as InvalidReading, Range as PastLimit}
@@ -18,18 +17,14 @@ use Rattle.tk_clock.proofs.Lines.{value_ahead}
 use Rattle.tk_counter.specs.Counter.{Counter, gap, half, mask}
 use Rattle.tk_ntp.specs.Advance.{second_time}
 use Rattle.tk_ntp.specs.Asked.{after_command}
-use Rattle.tk_ntp.specs.Lag.{greatest_lag, lag_after, short_of}
-use Rattle.tk_ntp.specs.Loops.{clamped_by}
+use Rattle.tk_ntp.specs.Lag.{greatest_lag}
 use Rattle.tk_ntp.specs.Ntp.{second_length}
 use Rattle.tk_ntp.specs.Staged.{IsSettled}
 use Rattle.tk_ntp.specs.SteeredClock.{SteeredClock, caught_up}
 use Rattle.tk_ntp.proofs.Accepted.{awake_before}
 use Rattle.tk_ntp.proofs.Gaps.{sum_gap}
-use Rattle.tk_ntp.proofs.MadeUp.{clamped_same}
 use Rattle.tk_ntp.proofs.Made.{none_here}
-use Rattle.tk_ntp.proofs.Scaled.{scaled_order, scaled_since, scaled_sum}
 use Rattle.tk_steered.specs.Early.{IsCurrent, IsEarlyFor, IsInSecond, current}
-use borrow.Author.Differences.{abs_is}
 use Rattle.tk_steered.proofs.Lags.{clamped-small, lag-here, lag-stepped}
 
 -- the clocks, after an update and another one
