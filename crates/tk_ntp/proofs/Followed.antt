@@ -1,6 +1,6 @@
 -- What clocks were asked for is what they were given, over commands at their own readings.
-use Rattle.std.proofs.Common.{◌≡◌, refl, sym, subst, ℕ, ◌+◌, ◌<◌, ◌≤◌, arith, Bool, true, false, Option, Some, None, nat_eq}
-use Rattle.std.specs.Prelude.{ℤ, pos, ◌+ℤ◌, if◌then◌else◌}
+use Rattle.std.proofs.Common.{◌≡◌, refl, ℕ, ◌+◌, ◌<◌, ◌≤◌, arith, Bool, true, false, nat_eq}
+use Rattle.std.specs.Prelude.{ℤ, pos, if◌then◌else◌}
 use Rattle.tk_clock.specs.declared.command.Command.{Command}
 use Rattle.tk_clock.specs.declared.command.Command.TheVariants.{Update, SetTime, Step, Freq, Tick, Tai, Leap as LeapSecond, Suspend, Resume}
 use Rattle.tk_clock.specs.declared.timespec.Timespec.{Timespec}
@@ -9,24 +9,17 @@ use Rattle.tk_clock.specs.Limits.{clock_end}
 use Rattle.tk_clock.specs.State.{State, effect}
 use Rattle.tk_ntp.specs.declared.leap.Leap.{Leap}
 use Rattle.tk_ntp.specs.declared.leap.Leap.TheVariants.{None as NoLeap, Insert, Delete}
-use Rattle.tk_ntp.specs.Account.{units_at, owed, asked_to, dropped_to, lag_to, IsMarked}
+use Rattle.tk_ntp.specs.Account.{units_at, lag_to}
 use Rattle.tk_ntp.specs.Advance.{leap_of_clock, seconds_left, steps_before, tai_of_clock, with_next_second}
 use Rattle.tk_ntp.specs.Bits.{has, sta_ins, sta_del}
-use Rattle.tk_ntp.specs.Followed.{followed, leap_followed, AreKeptOver, IsNoEarlier, IsOneBegunAlone, IsOwedOver, LeadTo, Still, Begins, Gives, Leaps, asked_over, dropped_over, seconds_left_after}
+use Rattle.tk_ntp.specs.Followed.{followed, leap_followed, IsNoEarlier, IsOwedAt, seconds_left_after}
 use Rattle.tk_ntp.specs.Lag.{greatest_lag}
 use Rattle.tk_ntp.specs.Leap.{leap_seconds, second_after_leap, tai_after_leap}
 use Rattle.tk_ntp.specs.Second.{leap_at}
 use Rattle.tk_ntp.specs.SteeredClock.{SteeredClock}
-use Rattle.tk_ntp.proofs.Account.{account-sum, chained, kept_whole, never}
+use Rattle.tk_ntp.proofs.Account.{account-sum, kept_whole, never}
 use Rattle.tk_ntp.proofs.Made.{kept_units}
 use Rattle.tk_ntp.proofs.Seconds.{back, counted, plan_steps}
-
--- what the clocks were asked for up to an account at a reading is what they were given, up to the
--- lag and to what the account drops
-abbrev AddsUp : ℕ → SteeredClock → SteeredClock → Type 0
-AddsUp reading before after =
-    owed before +ℤ asked_to reading before
-    ≡ owed after +ℤ dropped_to reading after.steering.lag before
 
 -- a command at a reading keeps MONOTONIC there, unless it wakes the clocks
 units-kept : (clock : State) (reading : ℕ) (cmd : Command) → is_resume cmd ≡ false →
@@ -51,18 +44,27 @@ units-kept clock reading Suspend plain =
     kept_units clock.base.counter reading (units_at reading clock) clock.base.mult
 units-kept clock reading (Resume away) plain = absurd (never plain)
 
-begins-sum : (at : ℕ) (steered : SteeredClock) → IsNoEarlier at steered →
-    AddsUp at steered (with_next_second at steered)
-begins-sum at steered order =
+-- the account of a second that begins without a command
+pub begun_owed : (at : ℕ) (steered : SteeredClock) → IsNoEarlier at steered →
+    IsOwedAt at steered (with_next_second at steered)
+begun_owed at steered order =
     let next = with_next_second at steered in
-    account-sum at next.steering.lag steered next refl refl refl order
+    record {
+      sum = account-sum at next.steering.lag steered next refl refl refl order;
+      kept = kept_whole (greatest_lag steered.clock.base.counter) (lag_to at steered);
+    }
 
-gives-sum : (reading : ℕ) (cmd : Command) (steered : SteeredClock) → is_resume cmd ≡ false →
-    IsNoEarlier reading steered → AddsUp reading steered (followed reading cmd steered)
-gives-sum reading cmd steered plain order =
+-- the account of a command that is followed
+pub followed_owed : (reading : ℕ) (cmd : Command) (steered : SteeredClock) →
+    is_resume cmd ≡ false → IsNoEarlier reading steered →
+    IsOwedAt reading steered (followed reading cmd steered)
+followed_owed reading cmd steered plain order =
     let next = followed reading cmd steered in
-    account-sum reading next.steering.lag steered next refl refl
-    (units-kept steered.clock reading cmd plain) order
+    record {
+      sum = account-sum reading next.steering.lag steered next refl refl
+          (units-kept steered.clock reading cmd plain) order;
+      kept = kept_whole (greatest_lag steered.clock.base.counter) (lag_to reading steered);
+    }
 
 -- the command of a leap wakes no clocks
 no_resume : (alone : Bool) (step : Timespec) (by tai : ℤ) →
@@ -77,91 +79,17 @@ leap-plain leap clock =
     (record { sec = leap_seconds leap; nsec = 0 }) (leap_seconds leap)
     (pos (tai_after_leap leap tai))
 
-leaps-sum : (reading : ℕ) (leap : Leap) (steered : SteeredClock) →
-    IsNoEarlier reading steered → AddsUp reading steered (leap_followed reading leap steered)
-leaps-sum reading leap steered order =
+-- the account of a leap that is followed
+pub leapt_owed : (reading : ℕ) (leap : Leap) (steered : SteeredClock) →
+    IsNoEarlier reading steered → IsOwedAt reading steered (leap_followed reading leap steered)
+leapt_owed reading leap steered order =
     let next = leap_followed reading leap steered in
-    account-sum reading next.steering.lag steered next refl refl
-    (units-kept steered.clock reading (leap_of_clock leap steered.clock)
-    (leap-plain leap steered.clock)) order
-
-sum-over : (before after : SteeredClock) (leads : LeadTo before after) →
-    owed before +ℤ asked_over before after leads ≡ owed after +ℤ dropped_over before after leads
-sum-over before after (Still steered) = refl
-sum-over before after (Begins steered end reading at due order rest) =
-    let next = with_next_second at steered in
-    chained (owed steered) (owed next) (owed end) (asked_to at steered) (asked_over next end rest)
-    (dropped_to at next.steering.lag steered) (dropped_over next end rest)
-    (begins-sum at steered order) (sum-over next end rest)
-sum-over before after (Gives steered end reading cmd plain order rest) =
-    let next = followed reading cmd steered in
-    chained (owed steered) (owed next) (owed end) (asked_to reading steered)
-    (asked_over next end rest) (dropped_to reading next.steering.lag steered)
-    (dropped_over next end rest) (gives-sum reading cmd steered plain order)
-    (sum-over next end rest)
-sum-over before after (Leaps steered end reading leap order rest) =
-    let next = leap_followed reading leap steered in
-    chained (owed steered) (owed next) (owed end) (asked_to reading steered)
-    (asked_over next end rest) (dropped_to reading next.steering.lag steered)
-    (dropped_over next end rest) (leaps-sum reading leap steered order) (sum-over next end rest)
-
-kept-over : (before after : SteeredClock) (leads : LeadTo before after) →
-    AreKeptOver before after leads
-kept-over before after (Still steered) = tt
-kept-over before after (Begins steered end reading at due order rest) = (
-  λ within. kept_whole (greatest_lag steered.clock.base.counter) (lag_to at steered) within,
-  kept-over (with_next_second at steered) end rest,
-)
-kept-over before after (Gives steered end reading cmd plain order rest) = (
-  λ within. kept_whole (greatest_lag steered.clock.base.counter) (lag_to reading steered) within,
-  kept-over (followed reading cmd steered) end rest,
-)
-kept-over before after (Leaps steered end reading leap order rest) = (
-  λ within. kept_whole (greatest_lag steered.clock.base.counter) (lag_to reading steered) within,
-  kept-over (leap_followed reading leap steered) end rest,
-)
-
--- over seconds and commands that lead to a state
-pub owed_over : (before after : SteeredClock) → LeadTo before after → IsOwedOver before after
-owed_over before after leads = record {
-  leads = leads;
-  sum = sum-over before after leads;
-  kept = kept-over before after leads;
-}
-
-pub still_owed : (before after : SteeredClock) → after ≡ before → IsOwedOver before after
-still_owed before after is =
-    owed_over before after (subst (LeadTo before) (sym is) (Still before))
-
--- over a second that began without a command
-pub begun_owed : (reading : ℕ) (before after : SteeredClock) (result : Option Leap) →
-    IsOneBegunAlone reading before result after → IsMarked before → IsOwedOver before after
-begun_owed reading before after None h marked = still_owed before after h.1
-begun_owed reading before after (Some leap) h marked =
-    let at = h.0 in
-    let next = with_next_second at before in
-    owed_over before after
-    (subst (LeadTo before) (sym h.3)
-    (Begins before next reading at h.1 (marked.nearer at h.1.first.ahead h.1.first.reached)
-    (Still next)))
-
--- over a command that was followed
-pub followed_owed : (reading : ℕ) (cmd : Command) (before after : SteeredClock) →
-    after ≡ followed reading cmd before → is_resume cmd ≡ false → IsNoEarlier reading before →
-    IsOwedOver before after
-followed_owed reading cmd before after is plain order =
-    let next = followed reading cmd before in
-    owed_over before after
-    (subst (LeadTo before) (sym is) (Gives before next reading cmd plain order (Still next)))
-
--- over a leap that was followed
-pub leapt_owed : (reading : ℕ) (leap : Leap) (before after : SteeredClock) →
-    after ≡ leap_followed reading leap before → IsNoEarlier reading before →
-    IsOwedOver before after
-leapt_owed reading leap before after is order =
-    let next = leap_followed reading leap before in
-    owed_over before after
-    (subst (LeadTo before) (sym is) (Leaps before next reading leap order (Still next)))
+    record {
+      sum = account-sum reading next.steering.lag steered next refl refl
+          (units-kept steered.clock reading (leap_of_clock leap steered.clock)
+          (leap-plain leap steered.clock)) order;
+      kept = kept_whole (greatest_lag steered.clock.base.counter) (lag_to reading steered);
+    }
 
 leap-next : (leap : Leap) (next : ℕ) → next + 1 ≤ second_after_leap leap (next + 1) + back leap
 leap-next NoLeap next = omega arith

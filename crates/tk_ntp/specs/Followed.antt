@@ -1,9 +1,8 @@
 -- Commands that clocks are given one by one, each at its own reading, by the owner of a discipline:
 -- for clocks that several callers share.
-use Rattle.std.specs.Prelude.{◌≡◌, ℕ, ◌≤◌, ⊤, false, Option, Some, None, Result, MatchOption, MatchResult, ℤ, pos, ◌+ℤ◌}
+use Rattle.std.specs.Prelude.{◌≡◌, ℕ, ◌≤◌, ⊤, Option, Some, None, Result, MatchOption, MatchResult, pos, ◌+ℤ◌}
 use Rattle.tk_clock.specs.declared.command.Command.{Command}
 use Rattle.tk_clock.specs.declared.refusal.Refusal.{Refusal}
-use Rattle.tk_clock.specs.Command.{is_resume}
 use Rattle.tk_clock.specs.Reach.{distance}
 use Rattle.tk_clock.specs.State.{effect}
 use Rattle.tk_ntp.specs.declared.leap.Leap.{Leap}
@@ -69,65 +68,10 @@ abbrev pub IsNoEarlier : ℕ → SteeredClock → Type 0
 IsNoEarlier reading steered =
     distance steered.clock.base steered.mark ≤ distance steered.clock.base reading
 
--- a state that seconds and commands lead to, one after the other, each with an account at its own
--- reading
-pub data LeadTo : SteeredClock → SteeredClock → Type 0 where
-  Still : (steered : SteeredClock) → LeadTo steered steered
-  Begins : (steered after : SteeredClock) (reading at : ℕ) → IsDue steered reading at →
-      IsNoEarlier at steered → LeadTo (with_next_second at steered) after → LeadTo steered after
-  Gives : (steered after : SteeredClock) (reading : ℕ) (cmd : Command) → is_resume cmd ≡ false →
-      IsNoEarlier reading steered → LeadTo (followed reading cmd steered) after →
-      LeadTo steered after
-  Leaps : (steered after : SteeredClock) (reading : ℕ) (leap : Leap) →
-      IsNoEarlier reading steered → LeadTo (leap_followed reading leap steered) after →
-      LeadTo steered after
-
--- the sum of what the clocks were asked for over these accounts
-abbrev pub asked_over : (before after : SteeredClock) → LeadTo before after → ℤ
-asked_over before after (Still steered) = pos 0
-asked_over before after (Begins steered end reading at due order rest) =
-    asked_to at steered +ℤ asked_over (with_next_second at steered) end rest
-asked_over before after (Gives steered end reading cmd plain order rest) =
-    asked_to reading steered +ℤ asked_over (followed reading cmd steered) end rest
-asked_over before after (Leaps steered end reading leap order rest) =
-    asked_to reading steered +ℤ asked_over (leap_followed reading leap steered) end rest
-
--- the sum of what these accounts drop
-abbrev pub dropped_over : (before after : SteeredClock) → LeadTo before after → ℤ
-dropped_over before after (Still steered) = pos 0
-dropped_over before after (Begins steered end reading at due order rest) =
-    let next = with_next_second at steered in
-    dropped_to at next.steering.lag steered +ℤ dropped_over next end rest
-dropped_over before after (Gives steered end reading cmd plain order rest) =
-    let next = followed reading cmd steered in
-    dropped_to reading next.steering.lag steered +ℤ dropped_over next end rest
-dropped_over before after (Leaps steered end reading leap order rest) =
-    let next = leap_followed reading leap steered in
-    dropped_to reading next.steering.lag steered +ℤ dropped_over next end rest
-
--- an account at a reading drops nothing while the lag stays within its bound
-abbrev pub IsKeptAt : ℕ → SteeredClock → SteeredClock → Type 0
-IsKeptAt reading steered next =
-    IsWithin reading steered → dropped_to reading next.steering.lag steered ≡ pos 0
-
--- none of these accounts does
-abbrev pub AreKeptOver : (before after : SteeredClock) → LeadTo before after → Type 0
-AreKeptOver before after (Still steered) = ⊤
-AreKeptOver before after (Begins steered end reading at due order rest) =
-    let next = with_next_second at steered in
-    IsKeptAt at steered next × AreKeptOver next end rest
-AreKeptOver before after (Gives steered end reading cmd plain order rest) =
-    let next = followed reading cmd steered in
-    IsKeptAt reading steered next × AreKeptOver next end rest
-AreKeptOver before after (Leaps steered end reading leap order rest) =
-    let next = leap_followed reading leap steered in
-    IsKeptAt reading steered next × AreKeptOver next end rest
-
--- what was asked for is what was given, up to the lag and to what was dropped, as seconds and
--- commands lead to a state
-pub record IsOwedOver (before after : SteeredClock) : Type 0 where
-  pub leads : LeadTo before after
+-- what was asked for up to an account at a reading is what was given, up to the lag and to what the
+-- account drops: nothing while the lag stays within its bound
+pub record IsOwedAt (reading : ℕ) (before after : SteeredClock) : Type 0 where
   pub sum :
-      owed before +ℤ asked_over before after leads
-      ≡ owed after +ℤ dropped_over before after leads
-  pub kept : AreKeptOver before after leads
+      owed before +ℤ asked_to reading before
+      ≡ owed after +ℤ dropped_to reading after.steering.lag before
+  pub kept : IsWithin reading before → dropped_to reading after.steering.lag before ≡ pos 0

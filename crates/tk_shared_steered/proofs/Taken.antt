@@ -11,35 +11,43 @@ use Rattle.tk_ntp.specs.declared.leap.Leap.{Leap}
 use Rattle.tk_ntp.specs.declared.leap.Leap.TheVariants.{None as NoLeap, Insert, Delete}
 use Rattle.tk_ntp.specs.Advance.{leap_of_clock, seconds_left}
 use Rattle.tk_ntp.specs.Change.{frequency_command, tick_command}
-use Rattle.tk_ntp.specs.Followed.{HasFollowed, IsOneBegunAlone, LeadTo, followed, leap_followed, seconds_left_after}
+use Rattle.tk_ntp.specs.Followed.{HasFollowed, IsNoEarlier, IsOneBegunAlone, IsOwedAt, followed, leap_followed, seconds_left_after}
 use Rattle.tk_ntp.specs.Leap.{is_leap}
 use Rattle.tk_ntp.specs.SteeredClock.{SteeredClock}
+use Rattle.tk_ntp.proofs.Followed.{begun_owed}
 use Rattle.tk_shared.specs.Callers.{Known}
 use Rattle.tk_shared_steered.specs.declared.fault.SteeringFault.{SteeringFault}
 use Rattle.tk_shared_steered.specs.declared.fault.SteeringFault.TheVariants.{Refused, Foreign}
 use Rattle.tk_shared_steered.specs.Given.{IsGiven, IsNotGiven}
 use Rattle.tk_shared_steered.specs.Late.{IsLeapMade, IsLeapMadeIf, IsUpdated, IsSet, IsSteered, IsTaken, Stays, StaysAtLeap, change_for}
 use Rattle.tk_shared_steered.specs.Owner.{IsFollowing, IsInStep, IsInStepIfKnown, Owner, owner_of}
-use Rattle.tk_shared_steered.proofs.Steps.{accepts, begins, follows, gives, runs_on}
+use Rattle.tk_shared_steered.proofs.Steps.{accepts, follows, no_earlier, runs_on}
 
--- a command that the discipline has followed
-pub taken : (old new : Owner) (cmd : Command) (reading : ℕ) (s next : SteeredClock)
-    (result : Result ⊤ Refusal) → IsInStep old → s.clock ≡ old.clock.clock →
+-- a command that the discipline has followed from a state `s`, which no second has left since the
+-- owner's state
+pub taken : (old new : Owner) (cmd : Command) (reading : ℕ) (follow : SteeredClock → SteeredClock)
+    (s : SteeredClock) (result : Result ⊤ Refusal) → IsInStep old → s.clock ≡ old.clock.clock →
     IsGiven cmd reading old.caller new.caller →
-    HasFollowed (state_refusal s.clock reading cmd) next s result new.clock →
-    new.count ≡ length new.caller.seen.entries → IsTaken cmd reading next old new
-taken old new cmd reading s next result step same given h count = record {
-  given = given;
-  clock = follows (state_refusal s.clock reading cmd) next s new.clock result h
-      (accepts s.clock cmd reading old.caller new.caller (same ∙ step.clocks) given);
-  count = count;
-}
+    HasFollowed (state_refusal s.clock reading cmd) (follow s) s result new.clock →
+    new.count ≡ length new.caller.seen.entries → IsOwedAt reading s (follow s) →
+    IsTaken cmd reading follow s old new
+taken old new cmd reading follow s result step same given h count owed =
+    let clock : new.clock ≡ follow s =
+    follows (state_refusal s.clock reading cmd) (follow s) s new.clock result h
+    (accepts s.clock cmd reading old.caller new.caller (same ∙ step.clocks) given) in
+    record {
+      given = given;
+      clock = clock;
+      count = count;
+      owed = subst (IsOwedAt reading s) (sym clock) owed;
+    }
 
 -- leaves the clocks in step
-pub in_step : (old new : Owner) (cmd : Command) (reading : ℕ) (next : SteeredClock) →
-    IsInStep old → IsTaken cmd reading next old new →
-    next.clock ≡ effect old.clock.clock reading cmd → next.mark ≡ reading → IsInStep new
-in_step old new cmd reading next step h is mark =
+pub in_step : (old new : Owner) (cmd : Command) (reading : ℕ)
+    (follow : SteeredClock → SteeredClock) (s : SteeredClock) → IsInStep old →
+    IsTaken cmd reading follow s old new →
+    (follow s).clock ≡ effect old.clock.clock reading cmd → (follow s).mark ≡ reading → IsInStep new
+in_step old new cmd reading follow s step h is mark =
     let clock : new.clock.clock ≡ effect old.clock.clock reading cmd =
     ap (λ (s : SteeredClock). s.clock) h.clock ∙ is in
     record {
@@ -132,51 +140,44 @@ stopped_at_leap leap given cmd fault here old caller due other is same h =
       stays = subst (λ (o : Owner). Stays (leap_of_clock leap o.clock.clock) fault o new) same stays;
     }
 
--- a command that was given to clocks `s`, which no second has left since the owner's state
-pub done : (cmd : Command) (reading : ℕ) (here : Owner) (caller : Known)
-    (s next after : SteeredClock) (count : ℕ) (result : Result ⊤ Refusal) → IsInStep here →
-    s.clock ≡ here.clock.clock → IsGiven cmd reading here.caller caller →
-    HasFollowed (state_refusal s.clock reading cmd) next s result after →
-    count ≡ length caller.seen.entries → IsTaken cmd reading next here (owner_of caller after count)
-done cmd reading here caller s next after count result step same given h is =
-    taken here (owner_of caller after count) cmd reading s next result step same given h is
-
 -- an update, up to which a second began in the discipline, or none
 pub same_clock : (leap : Option Leap) (reading : ℕ) (before s : SteeredClock) →
     IsOneBegunAlone reading before leap s → s.clock ≡ before.clock
 same_clock None reading before s h = ap (λ (n : SteeredClock). n.clock) h.1
 same_clock (Some leap) reading before s h = ap (λ (n : SteeredClock). n.clock) h.3
 
+-- the update's reading is in order after it
+pub update_order : (leap : Option Leap) (reading : ℕ) (before s : SteeredClock) →
+    before.mark ≡ before.clock.base.last → IsOneBegunAlone reading before leap s →
+    IsNoEarlier reading s
+update_order None reading before s mark h =
+    subst (IsNoEarlier reading) (sym h.1) (no_earlier before reading mark)
+update_order (Some leap) reading before s mark h =
+    subst (IsNoEarlier reading) (sym h.3) h.1.until
+
 pub updated : (leap : Option Leap) (reading : ℕ) (here new : Owner) (s : SteeredClock) →
-    IsOneBegunAlone reading here.clock leap s →
-    IsTaken Update reading (followed reading Update s) here new → IsUpdated leap here new
-updated None reading here new s h t = (
+    IsInStep here → IsOneBegunAlone reading here.clock leap s →
+    IsTaken Update reading (followed reading Update) s here new → IsUpdated leap here new
+updated None reading here new s step h t = (
   reading,
   h.0,
-  subst (λ (n : SteeredClock). IsTaken Update reading (followed reading Update n) here new) h.1 t,
+  subst (λ (n : SteeredClock). IsTaken Update reading (followed reading Update) n here new) h.1 t,
 )
-updated (Some leap) reading here new s h t = (
+updated (Some leap) reading here new s step h t = (
   reading,
   h.0,
   h.1,
   h.2,
-  subst (λ (n : SteeredClock). IsTaken Update reading (followed reading Update n) here new) h.3 t,
+  begun_owed h.0 here.clock (no_earlier here.clock h.0 step.mark),
+  subst (λ (n : SteeredClock). IsTaken Update reading (followed reading Update) n here new) h.3 t,
 )
-
-pub update_leads : (leap : Option Leap) (reading : ℕ) (before s after : SteeredClock) →
-    before.mark ≡ before.clock.base.last → IsOneBegunAlone reading before leap s →
-    after ≡ followed reading Update s → LeadTo before after
-update_leads None reading before s after mark h is =
-    gives before after Update reading refl mark (is ∙ ap (followed reading Update) h.1)
-update_leads (Some leap) reading before s after mark h is =
-    begins before after reading h.0 h.1 mark (is ∙ ap (followed reading Update) h.3)
 
 -- the leap of a second
 pub made_none : (leap : Leap) (owner : Owner) → leap ≡ NoLeap → IsLeapMade leap owner owner
 made_none leap owner is = subst (λ (l : Leap). IsLeapMade l owner owner) (sym is) refl
 
 pub made_some : (leap : Leap) (reading : ℕ) (old new : Owner) → (leap ≡ NoLeap → ⊥) →
-    IsTaken (leap_of_clock leap old.clock.clock) reading (leap_followed reading leap old.clock) old
+    IsTaken (leap_of_clock leap old.clock.clock) reading (leap_followed reading leap) old.clock old
     new → IsLeapMade leap old new
 made_some NoLeap reading old new other t = absurd (other refl)
 made_some Insert reading old new other t = (reading, t)

@@ -6,7 +6,7 @@ use Rattle.tk_ntp.specs.declared.leap.Leap.{Leap}
 use Rattle.tk_ntp.specs.declared.change.Change.{Change}
 use Rattle.tk_ntp.specs.Advance.{leap_of_clock, with_next_second, IsDue, IsNoneDue}
 use Rattle.tk_ntp.specs.Change.{frequency_command, tick_command}
-use Rattle.tk_ntp.specs.Followed.{followed, leap_followed}
+use Rattle.tk_ntp.specs.Followed.{followed, leap_followed, IsOwedAt}
 use Rattle.tk_ntp.specs.Leap.{is_leap}
 use Rattle.tk_ntp.specs.Second.{leap_at}
 use Rattle.tk_ntp.specs.Steering.{commands}
@@ -16,31 +16,35 @@ use Rattle.tk_shared_steered.specs.declared.fault.SteeringFault.TheVariants.{For
 use Rattle.tk_shared_steered.specs.Given.{IsGiven, IsNotGiven}
 use Rattle.tk_shared_steered.specs.Owner.{Owner, is_lost}
 
--- the owner's command was accepted at a reading, and the discipline followed it, which left the
--- clocks as `next`
-pub record IsTaken (cmd : Command) (reading : ℕ) (next : SteeredClock)
-    (old new : Owner) : Type 0 where
+-- the owner's command was accepted at a reading, and the discipline followed it from the state
+-- `before`, as `follow` gives the state after it. The account adds up to what the clocks were asked
+-- for
+pub record IsTaken (cmd : Command) (reading : ℕ) (follow : SteeredClock → SteeredClock)
+    (before : SteeredClock) (old new : Owner) : Type 0 where
   pub given : IsGiven cmd reading old.caller new.caller
-  pub clock : new.clock ≡ next
+  pub clock : new.clock ≡ follow before
   pub count : new.count ≡ length new.caller.seen.entries
+  pub owed : IsOwedAt reading before new.clock
 
 -- an update at a reading, up to which the next second begins in the discipline, if it is due
--- there: `None` if no second is due, otherwise the leap that is due with the second
+-- there, with an account at its own reading: `None` if no second is due, otherwise the leap that is
+-- due with the second
 abbrev pub IsUpdated : Option Leap → Owner → Owner → Type 0
 IsUpdated None old new =
     (reading : ℕ) × IsNoneDue old.clock reading
-    × IsTaken Update reading (followed reading Update old.clock) old new
+    × IsTaken Update reading (followed reading Update) old.clock old new
 IsUpdated (Some leap) old new =
     (reading : ℕ) × (at : ℕ) × IsDue old.clock reading at
     × (leap ≡ leap_at old.clock.steering.ntp old.clock.next)
-    × IsTaken Update reading (followed reading Update (with_next_second at old.clock)) old new
+    × IsOwedAt at old.clock (with_next_second at old.clock)
+    × IsTaken Update reading (followed reading Update) (with_next_second at old.clock) old new
 
 -- the command of a leap at a reading, if there is a leap
 abbrev pub IsLeapMade : Leap → Owner → Owner → Type 0
 IsLeapMade leap old new =
     let cmd = leap_of_clock leap old.clock.clock in
     MatchBool (is_leap leap)
-    ((reading : ℕ) × IsTaken cmd reading (leap_followed reading leap old.clock) old new)
+    ((reading : ℕ) × IsTaken cmd reading (leap_followed reading leap) old.clock old new)
     (new ≡ old)
 
 -- the same for the second that began, if one did
@@ -52,7 +56,7 @@ IsLeapMadeIf (Some leap) old new = IsLeapMade leap old new
 abbrev pub IsSet : Option Command → Owner → Owner → Type 0
 IsSet None old new = new ≡ old
 IsSet (Some cmd) old new =
-    (reading : ℕ) × IsTaken cmd reading (followed reading cmd old.clock) old new
+    (reading : ℕ) × IsTaken cmd reading (followed reading cmd) old.clock old new
 
 -- the commands of a change, each at its own reading
 abbrev pub IsChanged : Change → Owner → Owner → Type 0

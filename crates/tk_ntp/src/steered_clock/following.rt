@@ -1,13 +1,13 @@
 //! Lets the discipline follow clocks that are given commands one by one, each at its own reading,
 //! as those of a shared keeper are.
-ghost use Rattle.std.specs.Prelude.{◌≡◌, ◌<◌, ◌≤◌, false, MatchOption};
+ghost use Rattle.std.specs.Prelude.{◌≡◌, ◌<◌, ◌≤◌, false, MatchOption, IfOk};
 ghost use Rattle.tk_clock.specs.Command.{is_resume};
 ghost use Rattle.tk_clock.specs.Limits.{clock_end};
 ghost use Rattle.tk_clock.specs.Refusal.{state_refusal};
 ghost use Rattle.tk_ntp.specs.Account.{IsMarked};
 ghost use Rattle.tk_ntp.specs.Advance.{leap_of_clock, seconds_left};
 ghost use Rattle.tk_ntp.specs.Fault.{is_faulty};
-ghost use Rattle.tk_ntp.specs.Followed.{followed, leap_followed, HasFollowed, IsAskedAlone, IsNoEarlier, IsOneBegunAlone, IsOwedOver, seconds_left_after};
+ghost use Rattle.tk_ntp.specs.Followed.{followed, leap_followed, HasFollowed, IsAskedAlone, IsNoEarlier, IsOneBegunAlone, IsOwedAt, seconds_left_after};
 ghost use Rattle.tk_ntp.specs.Steering.{commands};
 ghost use Rattle.tk_ntp.specs.SteeredClock.{rate_in_force};
 
@@ -29,7 +29,8 @@ impl SteeredClock {
     pub fn begin_alone(&mut self, reading: u64) -> Option<Leap>
         ensures begun { IsOneBegunAlone reading self.old result self.new }
         // the account adds up to what the clocks were asked for
-        ensures sum { IsMarked self.old → IsOwedOver self.old self.new }
+        ensures sum { IsMarked self.old → MatchOption result (Unit {0})
+            (λ _. IsOwedAt self.new.mark self.old self.new) }
         // the second can be the one of a leap
         ensures next { MatchOption result (Unit {0})
             (λ _. (0 < self.new.next) × (self.new.next ≤ clock_end)) }
@@ -56,7 +57,7 @@ impl SteeredClock {
             (followed reading cmd self.old) self.old result self.new }
         // the account adds up to what the clocks were asked for
         ensures sum { is_resume cmd ≡ false → IsNoEarlier reading self.old →
-            IsOwedOver self.old self.new }
+            IfOk result (λ _. IsOwedAt reading self.old self.new) }
     {
         let mut next = *self;
         next.account(reading);
@@ -77,7 +78,8 @@ impl SteeredClock {
         ensures answer { HasFollowed (state_refusal self.old.clock reading (leap_of_clock leap self.old.clock))
             (leap_followed reading leap self.old) self.old result self.new }
         // the account adds up to what the clocks were asked for
-        ensures sum { IsNoEarlier reading self.old → IsOwedOver self.old self.new }
+        ensures sum { IsNoEarlier reading self.old →
+            IfOk result (λ _. IsOwedAt reading self.old self.new) }
     {
         let next = leap.next_second(self.next);
         self.follow_command(reading, leap.command(self.tai()))?;

@@ -3,7 +3,7 @@ ghost use Rattle.std.specs.Prelude.{◌≡◌, ◌<◌, ◌≤◌, false, length
 ghost use Rattle.tk_clock.specs.Command.{is_resume};
 ghost use Rattle.tk_clock.specs.Limits.{clock_end};
 ghost use Rattle.tk_ntp.specs.Advance.{seconds_left};
-ghost use Rattle.tk_ntp.specs.Followed.{IsOwedOver, LeadTo, seconds_left_after};
+ghost use Rattle.tk_ntp.specs.Followed.{seconds_left_after};
 ghost use Rattle.tk_shared_steered.specs.Late.{HasAdvancedLate, HasBegunLate, HasStopped, HasStoppedLate, IsLeapMadeIf, IsSet, IsSteered, IsUpdated, Stays, StaysAfterTick, StaysAt, StaysAtLeap};
 ghost use Rattle.tk_shared_steered.specs.Owner.{IsFollowing};
 
@@ -30,8 +30,6 @@ impl<L: Named> SharedSteering<L> {
         ensures answer { MatchResult result
             (λ _. HasAdvancedLate self.old self.new)
             (λ fault. HasStoppedLate fault self.old self.new) }
-        // the accounts add up to what the clocks were asked for
-        ensures sum { IsOwedOver self.old.clock self.new.clock }
     {
         'seconds: while self.begin_late(rt, keeper)? {}
         Ok(())
@@ -60,8 +58,6 @@ impl<L: Named> SharedSteering<L> {
         ensures answer { MatchResult result
             (λ begun. HasBegunLate begun self.old self.new)
             (λ fault. HasStopped fault self.old self.new) }
-        // the accounts add up to what the clocks were asked for
-        ensures sum { IsOwedOver self.old.clock self.new.clock }
         ensures fewer { IfOk result (λ begun. IsTrue begun →
             seconds_left self.new.clock < seconds_left self.old.clock) }
     {
@@ -88,7 +84,6 @@ impl<L: Named> SharedSteering<L> {
         ensures known { IfOk result (λ _. IsFollowing self.new) }
         ensures next { IfOk result (λ leap. MatchOption leap (Unit {0})
             (λ _. (0 < self.new.clock.next) × (self.new.clock.next ≤ clock_end))) }
-        ensures leads { LeadTo self.old.clock self.new.clock }
         ensures fewer { IfOk result (λ leap. MatchOption leap (Unit {0})
             (λ leap. seconds_left_after leap self.new.clock < seconds_left self.old.clock)) }
     {
@@ -113,7 +108,6 @@ impl<L: Named> SharedSteering<L> {
             (λ _. IsLeapMadeIf leap self.old self.new)
             (λ fault. StaysAtLeap leap fault self.old self.new) }
         ensures known { IfOk result (λ _. IsFollowing self.new) }
-        ensures leads { LeadTo self.old.clock self.new.clock }
     {
         let Some(leap) = leap else {
             return Ok(());
@@ -138,7 +132,6 @@ impl<L: Named> SharedSteering<L> {
         ensures answer { MatchResult result
             (λ _. IsSteered self.old self.new)
             (λ fault. StaysAfterTick fault self.old self.new) }
-        ensures leads { LeadTo self.old.clock self.new.clock }
     {
         let change = self.clock.needed_change();
         self.set(rt, keeper, change.tick_command())?;
@@ -158,7 +151,6 @@ impl<L: Named> SharedSteering<L> {
             (λ _. IsSet cmd self.old self.new)
             (λ fault. StaysAt cmd fault self.old self.new) }
         ensures known { IfOk result (λ _. IsFollowing self.new) }
-        ensures leads { LeadTo self.old.clock self.new.clock }
     {
         let Some(cmd) = cmd else {
             return Ok(());

@@ -1,13 +1,11 @@
 use Rattle.tk_ntp.specs.Advance.{seconds_left}
-use Rattle.tk_ntp.specs.Followed.{LeadTo}
 use Rattle.tk_shared_steered.specs.Late.{HaveBegunLate}
 use Rattle.tk_shared_steered.specs.Owner.{Owner}
 use Rattle.tk_shared_steered.proofs.shared_steering.SharedSteering.advance_late.Given as goal
 
 abbrev pub invariant-seconds : goal.invariant-seconds
 invariant-seconds g l =
-    ((after : Owner) → HaveBegunLate l.self after → HaveBegunLate l.initial.self after)
-    × LeadTo l.initial.self.clock l.self.clock
+    (after : Owner) → HaveBegunLate l.self after → HaveBegunLate l.initial.self after
 
 abbrev pub decreases-seconds : goal.decreases-seconds
 decreases-seconds g l = seconds_left l.self.clock

@@ -3,22 +3,15 @@ use Rattle.std.proofs.lemmas.Result.{err_from_is_err_and}
 use Rattle.tk_clock.specs.declared.command.Command.TheVariants.{Update}
 use Rattle.tk_ntp.specs.declared.leap.Leap.{Leap}
 use Rattle.tk_ntp.specs.Advance.{leap_of_clock, seconds_left}
-use Rattle.tk_ntp.specs.Followed.{LeadTo}
-use Rattle.tk_ntp.proofs.Followed.{owed_over, still_owed}
 use Rattle.tk_shared_steered.specs.declared.fault.SteeringFault.{SteeringFault}
 use Rattle.tk_shared_steered.specs.Late.{AfterLeap, AfterTick, AfterUpdate, AtFirst, HasStopped, IsLeapMadeIf, IsUpdated, Lost, StaysAfterTick, StaysAtLeap, Stops}
 use Rattle.tk_shared_steered.specs.Owner.{Owner}
-use Rattle.tk_shared_steered.proofs.Steps.{joined}
 use Rattle.tk_shared_steered.proofs.Taken.{fewer}
 use Rattle.tk_shared_steered.proofs.shared_steering.SharedSteering.begin_late.Goals as goal
 
 pub returns-then-is_lost-clause-answer : goal.returns-then-is_lost-clause-answer
 returns-then-is_lost-clause-answer g c =
     Lost refl (sym c.is_lost.ensures.value ∙ c.if-is_lost.true) refl
-
-pub returns-then-is_lost-clause-sum : goal.returns-then-is_lost-clause-sum
-returns-then-is_lost-clause-sum g c =
-    still_owed c.args.self.now.clock c.args.self.now.clock refl
 
 pub update-requires-clause-known : goal.update-requires-clause-known
 update-requires-clause-known g c κs within = c.is_lost.ensures.known c.if-is_lost.false
@@ -27,10 +20,6 @@ pub returns-in_err-leap-clause-answer : goal.returns-in_err-leap-clause-answer
 returns-in_err-leap-clause-answer g c =
     let p = err_from_is_err_and c.from_residual.result c.from_residual.ensures.1 in
     rw (p.1, p.2) (Stops Update c.args.self.now AtFirst c.in_err-leap.ensures.answer)
-
-pub returns-in_err-leap-clause-sum : goal.returns-in_err-leap-clause-sum
-returns-in_err-leap-clause-sum g c =
-    owed_over c.args.self.now.clock c.update.new.self.clock c.update.ensures.leads
 
 pub returns-in_err-leap-clause-fewer : goal.returns-in_err-leap-clause-fewer
 returns-in_err-leap-clause-fewer g c =
@@ -58,12 +47,6 @@ returns-in_err-make_leap-clause-answer g c =
     c.update.new.self c.make_leap.new.self c.in_ok-leap.ensures.answer
     c.in_err-make_leap.ensures.answer)
 
-pub returns-in_err-make_leap-clause-sum : goal.returns-in_err-make_leap-clause-sum
-returns-in_err-make_leap-clause-sum g c =
-    owed_over c.args.self.now.clock c.make_leap.new.self.clock
-    (joined c.args.self.now.clock c.update.new.self.clock c.make_leap.new.self.clock
-    c.update.ensures.leads c.make_leap.ensures.leads)
-
 pub returns-in_err-make_leap-clause-fewer : goal.returns-in_err-make_leap-clause-fewer
 returns-in_err-make_leap-clause-fewer g c =
     let p = err_from_is_err_and c.from_residual-in_err-make_leap.result
@@ -90,17 +73,6 @@ returns-in_err-steer-clause-answer g c =
     c.update.new.self c.make_leap.new.self c.steer.new.self c.in_ok-leap.ensures.answer
     c.in_ok-make_leap.ensures.answer c.in_err-steer.ensures.answer)
 
-led : (a b c d : Owner) → LeadTo a.clock b.clock → LeadTo b.clock c.clock →
-    LeadTo c.clock d.clock → LeadTo a.clock d.clock
-led a b c d one two three =
-    joined a.clock b.clock d.clock one (joined b.clock c.clock d.clock two three)
-
-pub returns-in_err-steer-clause-sum : goal.returns-in_err-steer-clause-sum
-returns-in_err-steer-clause-sum g c =
-    owed_over c.args.self.now.clock c.steer.new.self.clock
-    (led c.args.self.now c.update.new.self c.make_leap.new.self c.steer.new.self
-    c.update.ensures.leads c.make_leap.ensures.leads c.steer.ensures.leads)
-
 pub returns-in_err-steer-clause-fewer : goal.returns-in_err-steer-clause-fewer
 returns-in_err-steer-clause-fewer g c =
     let p = err_from_is_err_and c.from_residual-in_err-steer.result
@@ -117,12 +89,6 @@ returns-clause-answer g c = record {
   steered = c.in_ok-steer.ensures.answer;
   is = c.is_some.ensures;
 }
-
-pub returns-clause-sum : goal.returns-clause-sum
-returns-clause-sum g c =
-    owed_over c.args.self.now.clock c.steer.new.self.clock
-    (led c.args.self.now c.update.new.self c.make_leap.new.self c.steer.new.self
-    c.update.ensures.leads c.make_leap.ensures.leads c.steer.ensures.leads)
 
 pub returns-clause-fewer : goal.returns-clause-fewer
 returns-clause-fewer g c = λ begun.

@@ -9,12 +9,13 @@ use Rattle.tk_ntp.specs.declared.leap.Leap.{Leap}
 use Rattle.tk_ntp.specs.declared.leap.Leap.TheVariants.{None as NoLeap}
 use Rattle.tk_ntp.specs.Advance.{leap_of_clock}
 use Rattle.tk_ntp.specs.Leap.{leap_command}
-use Rattle.tk_ntp.specs.Followed.{LeadTo, Still, leap_followed}
+use Rattle.tk_ntp.specs.Followed.{leap_followed}
+use Rattle.tk_ntp.proofs.Followed.{leapt_owed}
 use Rattle.tk_shared_steered.specs.Given.{IsGiven}
 use Rattle.tk_shared_steered.specs.Late.{IsLeapMade, IsTaken}
 use Rattle.tk_shared_steered.specs.Owner.{IsFollowing, IsInStep, Owner, owner_of}
-use Rattle.tk_shared_steered.proofs.Steps.{leaps, still}
-use Rattle.tk_shared_steered.proofs.Taken.{done, in_step, made_none, made_some, stopped_at_leap, stopped_in_step}
+use Rattle.tk_shared_steered.proofs.Steps.{no_earlier}
+use Rattle.tk_shared_steered.proofs.Taken.{in_step, made_none, made_some, stopped_at_leap, stopped_in_step, taken}
 use Rattle.tk_shared_steered.proofs.shared_steering.SharedSteering.make_leap.Given.{Over}
 use Rattle.tk_shared_steered.proofs.shared_steering.SharedSteering.make_leap.Goals as goal
 
@@ -24,9 +25,6 @@ returns-in_default-clause-answer g c = rw c.in_default.is refl
 pub returns-in_default-clause-known : goal.returns-in_default-clause-known
 returns-in_default-clause-known g c = c.requires.known
 
-pub returns-in_default-clause-leads : goal.returns-in_default-clause-leads
-returns-in_default-clause-leads g c = Still c.args.self.now.clock
-
 pub returns-then-eq-clause-answer : goal.returns-then-eq-clause-answer
 returns-then-eq-clause-answer g c =
     let none : c.in-Some.leap ≡ NoLeap = search rules in
@@ -34,9 +32,6 @@ returns-then-eq-clause-answer g c =
 
 pub returns-then-eq-clause-known : goal.returns-then-eq-clause-known
 returns-then-eq-clause-known g c = c.requires.known
-
-pub returns-then-eq-clause-leads : goal.returns-then-eq-clause-leads
-returns-then-eq-clause-leads g c = Still c.args.self.now.clock
 
 -- the command is that of the clocks' TAI offset
 command_is : (leap : Leap) (tai : ℕ) (cmd : Command) (snapshot : Snapshot) (clock : State) →
@@ -70,10 +65,6 @@ pub returns-in_err-reading-clause-known : goal.returns-in_err-reading-clause-kno
 returns-in_err-reading-clause-known g c =
     let p = err_from_is_err_and c.from_residual.result c.from_residual.ensures.1 in
     rw p.1 tt
-
-pub returns-in_err-reading-clause-leads : goal.returns-in_err-reading-clause-leads
-returns-in_err-reading-clause-leads g c =
-    still c.args.self.now.clock c.self.inside.clock (ap (λ (o : Owner). o.clock) c.self.view_is)
 
 can_leap : (leap : Leap) (given : Option Leap) (here old : Owner) → given ≡ Some leap → here ≡ old →
     MatchOption given (Unit {0}) (λ _. (0 < old.clock.next) × (old.clock.next ≤ clock_end)) →
@@ -112,23 +103,23 @@ cmd_is g c =
 
 given : (g : Over) (c : goal.After-self-1 g) →
     IsTaken (leap_of_clock c.in-Some.leap c.self.inside.clock.clock) c.in_ok-reading.reading
-    (leap_followed c.in_ok-reading.reading c.in-Some.leap c.self.inside.clock) (Here g c) (New g c)
+    (leap_followed c.in_ok-reading.reading c.in-Some.leap) c.self.inside.clock (Here g c) (New g c)
 given g c =
     let s = c.self.inside.clock in
-    done (leap_of_clock c.in-Some.leap s.clock) c.in_ok-reading.reading (Here g c)
-    c.give.new.caller s (leap_followed c.in_ok-reading.reading c.in-Some.leap s)
-    c.follow_leap-accepted.new.self c.front-self-inside.result c.follow_leap-accepted.result
-    (step g c) refl
-    (subst (λ (cmd : Command). IsGiven cmd c.in_ok-reading.reading c.self.inside.caller
-    c.give.new.caller) (cmd_is g c) c.in_ok-reading.ensures.answer)
+    let leap = c.in-Some.leap in
+    let reading = c.in_ok-reading.reading in
+    taken (Here g c) (New g c) (leap_of_clock leap s.clock) reading (leap_followed reading leap) s
+    c.follow_leap-accepted.result (step g c) refl
+    (subst (λ (cmd : Command). IsGiven cmd reading c.self.inside.caller c.give.new.caller)
+    (cmd_is g c) c.in_ok-reading.ensures.answer)
     c.follow_leap-accepted.ensures.answer c.front-self-inside.ensures
+    (leapt_owed reading leap s (no_earlier s reading (step g c).mark))
 
 pub invariant_of-self-2 : goal.invariant_of-self-2
 invariant_of-self-2 g c = λ following.
     in_step (Here g c) (New g c) (leap_of_clock c.in-Some.leap c.self.inside.clock.clock)
-    c.in_ok-reading.reading
-    (leap_followed c.in_ok-reading.reading c.in-Some.leap c.self.inside.clock) (step g c)
-    (given g c) refl refl
+    c.in_ok-reading.reading (leap_followed c.in_ok-reading.reading c.in-Some.leap)
+    c.self.inside.clock (step g c) (given g c) refl refl
 
 pub returns-clause-answer : goal.returns-clause-answer
 returns-clause-answer g c =
@@ -138,9 +129,3 @@ returns-clause-answer g c =
 
 pub returns-clause-known : goal.returns-clause-known
 returns-clause-known g c = sym c.front-self-inside.ensures
-
-pub returns-clause-leads : goal.returns-clause-leads
-returns-clause-leads g c =
-    subst (λ (o : Owner). LeadTo o.clock c.follow_leap-accepted.new.self) c.self.view_is
-    (leaps c.self.inside.clock c.follow_leap-accepted.new.self c.in-Some.leap
-    c.in_ok-reading.reading (step g c).mark (given g c).clock)

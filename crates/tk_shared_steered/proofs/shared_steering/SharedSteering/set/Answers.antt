@@ -1,13 +1,14 @@
-use Rattle.std.proofs.Common.{◌≡◌, ap, refl, sym, subst, false, Some, Option}
+use Rattle.std.proofs.Common.{◌≡◌, refl, sym, subst, false, Some, Option}
 use Rattle.std.proofs.lemmas.Result.{err_from_is_err_and}
 use Rattle.std.specs.Prelude.{MatchOption}
 use Rattle.tk_clock.specs.declared.command.Command.{Command}
 use Rattle.tk_clock.specs.Command.{is_resume}
-use Rattle.tk_ntp.specs.Followed.{LeadTo, Still, followed}
+use Rattle.tk_ntp.specs.Followed.{followed}
+use Rattle.tk_ntp.proofs.Followed.{followed_owed}
 use Rattle.tk_shared_steered.specs.Late.{IsSet, IsTaken}
 use Rattle.tk_shared_steered.specs.Owner.{IsFollowing, IsInStep, Owner, owner_of}
-use Rattle.tk_shared_steered.proofs.Steps.{gives, still}
-use Rattle.tk_shared_steered.proofs.Taken.{done, in_step, stopped, stopped_in_step}
+use Rattle.tk_shared_steered.proofs.Steps.{no_earlier}
+use Rattle.tk_shared_steered.proofs.Taken.{in_step, stopped, stopped_in_step, taken}
 use Rattle.tk_shared_steered.proofs.shared_steering.SharedSteering.set.Given.{Over}
 use Rattle.tk_shared_steered.proofs.shared_steering.SharedSteering.set.Goals as goal
 
@@ -16,9 +17,6 @@ returns-in_default-clause-answer g c = rw c.in_default.is refl
 
 pub returns-in_default-clause-known : goal.returns-in_default-clause-known
 returns-in_default-clause-known g c = c.requires.known
-
-pub returns-in_default-clause-leads : goal.returns-in_default-clause-leads
-returns-in_default-clause-leads g c = Still c.args.self.now.clock
 
 pub invariant_of-self : goal.invariant_of-self
 invariant_of-self g c =
@@ -44,51 +42,42 @@ returns-in_err-reading-clause-known g c =
     let p = err_from_is_err_and c.from_residual.result c.from_residual.ensures.1 in
     rw p.1 tt
 
-pub returns-in_err-reading-clause-leads : goal.returns-in_err-reading-clause-leads
-returns-in_err-reading-clause-leads g c =
-    still c.args.self.now.clock c.self.inside.clock (ap (λ (o : Owner). o.clock) c.self.view_is)
-
 abbrev Here : (g : Over) → goal.After-self-1 g → Owner
 Here g c = owner_of c.self.inside.caller c.self.inside.clock c.self.inside.count
 
 step : (g : Over) (c : goal.After-self-1 g) → IsInStep (Here g c)
 step g c = c.self.invariant (subst IsFollowing (sym c.self.view_is) c.requires.known)
 
+plain : (g : Over) (c : goal.After-self-1 g) → is_resume c.in-Some.cmd ≡ false
+plain g c =
+    subst (λ (o : Option Command). MatchOption o (Unit {0}) (λ cmd. is_resume cmd ≡ false))
+    c.in-Some.is c.requires.plain
+
+abbrev New : (g : Over) → goal.After-self-1 g → Owner
+New g c = owner_of c.give.new.caller c.follow_command-accepted.new.self c.front-self-inside.result
+
 set : (g : Over) (c : goal.After-self-1 g) →
     IsTaken c.in-Some.cmd c.in_ok-reading.reading
-    (followed c.in_ok-reading.reading c.in-Some.cmd c.self.inside.clock) (Here g c)
-    (owner_of c.give.new.caller c.follow_command-accepted.new.self c.front-self-inside.result)
+    (followed c.in_ok-reading.reading c.in-Some.cmd) c.self.inside.clock (Here g c) (New g c)
 set g c =
     let s = c.self.inside.clock in
-    done c.in-Some.cmd c.in_ok-reading.reading (Here g c) c.give.new.caller s
-    (followed c.in_ok-reading.reading c.in-Some.cmd s) c.follow_command-accepted.new.self
-    c.front-self-inside.result c.follow_command-accepted.result (step g c) refl
-    c.in_ok-reading.ensures.answer c.follow_command-accepted.ensures.answer
-    c.front-self-inside.ensures
+    let cmd = c.in-Some.cmd in
+    let reading = c.in_ok-reading.reading in
+    taken (Here g c) (New g c) cmd reading (followed reading cmd) s
+    c.follow_command-accepted.result (step g c) refl c.in_ok-reading.ensures.answer
+    c.follow_command-accepted.ensures.answer c.front-self-inside.ensures
+    (followed_owed reading cmd s (plain g c) (no_earlier s reading (step g c).mark))
 
 pub invariant_of-self-2 : goal.invariant_of-self-2
 invariant_of-self-2 g c = λ following.
-    in_step (Here g c)
-    (owner_of c.give.new.caller c.follow_command-accepted.new.self c.front-self-inside.result)
-    c.in-Some.cmd c.in_ok-reading.reading
-    (followed c.in_ok-reading.reading c.in-Some.cmd c.self.inside.clock) (step g c) (set g c) refl
+    in_step (Here g c) (New g c) c.in-Some.cmd c.in_ok-reading.reading
+    (followed c.in_ok-reading.reading c.in-Some.cmd) c.self.inside.clock (step g c) (set g c) refl
     refl
 
 pub returns-clause-answer : goal.returns-clause-answer
 returns-clause-answer g c =
-    let new = owner_of c.give.new.caller c.follow_command-accepted.new.self
-    c.front-self-inside.result in
-    rw c.in-Some.is (subst (λ (o : Owner). IsSet (Some c.in-Some.cmd) o new) c.self.view_is
+    rw c.in-Some.is (subst (λ (o : Owner). IsSet (Some c.in-Some.cmd) o (New g c)) c.self.view_is
     (c.in_ok-reading.reading, set g c))
 
 pub returns-clause-known : goal.returns-clause-known
 returns-clause-known g c = sym c.front-self-inside.ensures
-
-pub returns-clause-leads : goal.returns-clause-leads
-returns-clause-leads g c =
-    let plain : is_resume c.in-Some.cmd ≡ false =
-    subst (λ (o : Option Command). MatchOption o (Unit {0}) (λ cmd. is_resume cmd ≡ false))
-    c.in-Some.is c.requires.plain in
-    subst (λ (o : Owner). LeadTo o.clock c.follow_command-accepted.new.self) c.self.view_is
-    (gives c.self.inside.clock c.follow_command-accepted.new.self c.in-Some.cmd
-    c.in_ok-reading.reading plain (step g c).mark (set g c).clock)

@@ -5,12 +5,12 @@ use Rattle.tk_clock.specs.declared.command.Command.TheVariants.{Update}
 use Rattle.tk_clock.specs.Limits.{clock_end}
 use Rattle.tk_clock.specs.State.{State, effect}
 use Rattle.tk_ntp.specs.Advance.{seconds_left}
-use Rattle.tk_ntp.specs.Followed.{LeadTo, followed, seconds_left_after}
+use Rattle.tk_ntp.specs.Followed.{followed, seconds_left_after}
 use Rattle.tk_ntp.specs.SteeredClock.{SteeredClock}
+use Rattle.tk_ntp.proofs.Followed.{followed_owed}
 use Rattle.tk_shared_steered.specs.Late.{IsTaken, IsUpdated}
 use Rattle.tk_shared_steered.specs.Owner.{IsFollowing, IsInStep, Owner, owner_of}
-use Rattle.tk_shared_steered.proofs.Steps.{still}
-use Rattle.tk_shared_steered.proofs.Taken.{done, in_step, same_clock, stopped, stopped_in_step, update_leads, updated}
+use Rattle.tk_shared_steered.proofs.Taken.{in_step, same_clock, stopped, stopped_in_step, taken, update_order, updated}
 use Rattle.tk_shared_steered.proofs.shared_steering.SharedSteering.update.Given.{Over}
 use Rattle.tk_shared_steered.proofs.shared_steering.SharedSteering.update.Goals as goal
 
@@ -33,10 +33,6 @@ pub returns-in_err-reading-clause-known : goal.returns-in_err-reading-clause-kno
 returns-in_err-reading-clause-known g c =
     let p = err_from_is_err_and c.from_residual.result c.from_residual.ensures.1 in
     rw p.1 tt
-
-pub returns-in_err-reading-clause-leads : goal.returns-in_err-reading-clause-leads
-returns-in_err-reading-clause-leads g c =
-    still c.args.self.now.clock c.self.inside.clock (ap (λ (o : Owner). o.clock) c.self.view_is)
 
 pub returns-in_err-reading-clause-next : goal.returns-in_err-reading-clause-next
 returns-in_err-reading-clause-next g c =
@@ -64,27 +60,29 @@ same g c =
     c.begin_alone-leap.new.self c.begin_alone-leap.ensures.begun
 
 given : (g : Over) (c : goal.After-self-1 g) →
-    IsTaken Update c.in_ok-reading.reading
-    (followed c.in_ok-reading.reading Update c.begin_alone-leap.new.self) (Here g c) (New g c)
+    IsTaken Update c.in_ok-reading.reading (followed c.in_ok-reading.reading Update)
+    c.begin_alone-leap.new.self (Here g c) (New g c)
 given g c =
     let s = c.begin_alone-leap.new.self in
-    done Update c.in_ok-reading.reading (Here g c) c.give.new.caller s
-    (followed c.in_ok-reading.reading Update s) c.follow_command-accepted.new.self
-    c.front-self-inside.result c.follow_command-accepted.result (step g c) (same g c)
-    c.in_ok-reading.ensures.answer c.follow_command-accepted.ensures.answer
-    c.front-self-inside.ensures
+    let reading = c.in_ok-reading.reading in
+    taken (Here g c) (New g c) Update reading (followed reading Update) s
+    c.follow_command-accepted.result (step g c) (same g c) c.in_ok-reading.ensures.answer
+    c.follow_command-accepted.ensures.answer c.front-self-inside.ensures
+    (followed_owed reading Update s refl
+    (update_order c.begin_alone-leap.result reading c.self.inside.clock s (step g c).mark
+    c.begin_alone-leap.ensures.begun))
 
 pub invariant_of-self-2 : goal.invariant_of-self-2
 invariant_of-self-2 g c = λ following.
     in_step (Here g c) (New g c) Update c.in_ok-reading.reading
-    (followed c.in_ok-reading.reading Update c.begin_alone-leap.new.self) (step g c) (given g c)
+    (followed c.in_ok-reading.reading Update) c.begin_alone-leap.new.self (step g c) (given g c)
     (ap (λ (s : State). effect s c.in_ok-reading.reading Update) (same g c)) refl
 
 pub returns-clause-answer : goal.returns-clause-answer
 returns-clause-answer g c =
     subst (λ (o : Owner). IsUpdated c.begin_alone-leap.result o (New g c)) c.self.view_is
     (updated c.begin_alone-leap.result c.in_ok-reading.reading (Here g c) (New g c)
-    c.begin_alone-leap.new.self c.begin_alone-leap.ensures.begun (given g c))
+    c.begin_alone-leap.new.self (step g c) c.begin_alone-leap.ensures.begun (given g c))
 
 pub returns-clause-known : goal.returns-clause-known
 returns-clause-known g c = sym c.front-self-inside.ensures
@@ -94,13 +92,6 @@ returns-clause-next g c =
     subst (λ (n : SteeredClock). MatchOption c.begin_alone-leap.result (Unit {0})
     (λ _. (0 < n.next) × (n.next ≤ clock_end))) (sym (given g c).clock)
     c.begin_alone-leap.ensures.next
-
-pub returns-clause-leads : goal.returns-clause-leads
-returns-clause-leads g c =
-    subst (λ (o : Owner). LeadTo o.clock c.follow_command-accepted.new.self) c.self.view_is
-    (update_leads c.begin_alone-leap.result c.in_ok-reading.reading c.self.inside.clock
-    c.begin_alone-leap.new.self c.follow_command-accepted.new.self (step g c).mark
-    c.begin_alone-leap.ensures.begun (given g c).clock)
 
 pub returns-clause-fewer : goal.returns-clause-fewer
 returns-clause-fewer g c =
