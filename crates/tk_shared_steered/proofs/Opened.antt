@@ -1,7 +1,7 @@
 -- The clocks of a history without entries, and their first command.
-use Rattle.std.proofs.Common.{◌≡◌, ◌∙◌, refl, sym, ap, subst, ℕ, List, [], ◌∷◌, length, None, false, arith}
+use Rattle.std.proofs.Common.{◌≡◌, ◌∙◌, refl, sym, ap, subst, ℕ, ◌+◌, List, [], ◌∷◌, length, None, arith}
 use Rattle.std.specs.Prelude.{⊤, ℤ, pos, unsigned_abs, Result}
-use Rattle.tk_counter.specs.Counter.{Counter, usual_tick}
+use Rattle.tk_counter.specs.Counter.{Counter}
 use Rattle.tk_clock.specs.declared.command.Command.TheVariants.{Update}
 use Rattle.tk_clock.specs.declared.command.Entry.{Entry}
 use Rattle.tk_clock.specs.declared.refusal.Refusal.{Refusal}
@@ -21,7 +21,7 @@ use Rattle.tk_shared.specs.Callers.{HasRead, Known, entry_of}
 use Rattle.tk_shared_steered.specs.Given.{IsGiven}
 use Rattle.tk_shared_steered.specs.declared.fault.SteeringFault.{SteeringFault}
 use Rattle.tk_shared_steered.specs.declared.fault.SteeringFault.TheVariants.{Refused, Foreign}
-use Rattle.tk_shared_steered.specs.Opened.{IsNotShown, IsOpenedAs, IsShown, IsUnopened, Late, Unsound, shown_refusal}
+use Rattle.tk_shared_steered.specs.Opened.{IsNotShown, IsOpenedAs, IsShown, IsUnopened, Late, Unsound, real_shown, shown_refusal}
 use Rattle.tk_shared_steered.specs.Owner.{IsInStep, owner_of}
 use Rattle.tk_shared_steered.proofs.Given.{accepted_last}
 use Rattle.tk_shared_steered.proofs.Steps.{accepts, follows}
@@ -29,22 +29,8 @@ use Rattle.tk_shared_steered.proofs.Steps.{accepts, follows}
 -- newly opened clocks, by REALTIME in nanoseconds
 abbrev opened_with : Counter → ℕ → ℤ → Journal
 opened_with counter start real =
-    record {
-      opening = record {
-        counter = counter;
-        reading = start;
-        count = 0;
-        amount = 0;
-        raw_amount = 0;
-        frequency = pos 0;
-        tick = usual_tick;
-        real_offset = real;
-        boot_offset = pos 0;
-        tai = pos 0;
-        asleep = false;
-      };
-      entries = [];
-    }
+    let journal = opened counter start (timespec_of 0) in
+    record journal { opening = record journal.opening { real_offset = real } }
 
 none_listed : (entries : List Entry) → length entries ≡ 0 → entries ≡ []
 none_listed [] none = refl
@@ -73,28 +59,24 @@ is_opened journal entry real whole none same =
     ∙ ap (λ (s : ℕ). opened_with counter s (nanoseconds before)) (sym last)
     ∙ ap (opened_with counter (base_of journal).last) (sym offset)
 
--- the first command of a history that was read, and clocks that follow it
-pub opened_as : (hz : ℕ) (old middle new : Known) (snapshot : Snapshot) (real : Timespec)
-    (reading : ℕ) (before after : SteeredClock) (result : Result ⊤ Refusal) →
-    HasRead old middle snapshot → snapshot.front ≡ 0 →
-    nanoseconds real ≡ snapshot.base.real_offset →
-    steered_refusal snapshot.base.counter snapshot.base.last real hz ≡ None →
-    before ≡ steered_opened snapshot.base.counter snapshot.base.last real hz →
-    IsGiven Update reading middle new →
+-- the first command of a history whose clocks a snapshot shows, and clocks that follow it
+pub opened_as : (hz : ℕ) (old middle new : Known) (snapshot : Snapshot) (reading : ℕ)
+    (before after : SteeredClock) (result : Result ⊤ Refusal) → HasRead old middle snapshot →
+    IsShown hz snapshot before → IsGiven Update reading middle new →
     HasFollowed (state_refusal before.clock reading Update) (followed reading Update before) before
     result after →
     IsOpenedAs hz old new after
-opened_as hz old middle new snapshot real reading before after result r none same sound is given
-    h =
+opened_as hz old middle new snapshot reading before after result r is given h =
     let base = snapshot.base in
+    let real = real_shown base in
     let entry = entry_of middle reading Update in
     let journal : middle.seen ≡ opened base.counter base.last real =
     is_opened middle.seen entry real (subst IsWhole given.seen given.informed.whole)
-    (sym (ap (λ (s : Snapshot). s.front) r.answer) ∙ none)
-    (same ∙ ap (λ (s : Snapshot). s.base.real_offset) r.answer)
+    (sym (ap (λ (s : Snapshot). s.front) r.answer) ∙ is.none)
+    (is.same ∙ ap (λ (s : Snapshot). s.base.real_offset) r.answer)
     ∙ ap (λ (s : Snapshot). opened s.base.counter s.base.last real) (sym r.answer) in
     let clock : before.clock ≡ state_of middle.seen =
-    ap (λ (s : SteeredClock). s.clock) is ∙ ap state_of (sym journal) in
+    ap (λ (s : SteeredClock). s.clock) is.clock_is ∙ ap state_of (sym journal) in
     record {
       counter = base.counter;
       start = base.last;
@@ -105,26 +87,17 @@ opened_as hz old middle new snapshot real reading before after result r none sam
           ∙ ap (λ (j : Journal). followed_by j entry) journal
           ∙ ap (λ (id : ℕ). followed_by (opened base.counter base.last real)
           (record { who = id; reading = reading; cmd = Update })) r.id;
-      sound = sound;
+      same = ap (λ (j : Journal). j.opening) given.seen ∙ r.extends.0;
+      sound = is.sound;
       clock_is =
           follows (state_refusal before.clock reading Update) (followed reading Update before)
           before after result h
           (accepts before.clock Update reading middle new clock given)
-          ∙ ap (followed reading Update) is;
+          ∙ ap (followed reading Update) is.clock_is;
+      counted = given.counted ∙ ap (λ (n : ℕ). n + 1) r.accepted;
       informed = given.informed;
       id = given.id ∙ r.id;
     }
-
--- the same, when the snapshot shows the clocks
-pub given_as : (hz : ℕ) (old middle new : Known) (snapshot : Snapshot) (reading : ℕ)
-    (before after : SteeredClock) (result : Result ⊤ Refusal) → HasRead old middle snapshot →
-    IsShown hz snapshot before → IsGiven Update reading middle new →
-    HasFollowed (state_refusal before.clock reading Update) (followed reading Update before) before
-    result after →
-    IsOpenedAs hz old new after
-given_as hz old middle new snapshot reading before after result read h given =
-    opened_as hz old middle new snapshot h.real reading before after result read h.none h.same
-    h.sound h.clock_is given
 
 -- no discipline is opened on clocks that the snapshot doesn't show
 pub unshown : (hz : ℕ) (old new : Known) (snapshot : Snapshot) (fault : SteeringFault) →

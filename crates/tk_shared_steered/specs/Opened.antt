@@ -1,5 +1,5 @@
 -- The opening of a discipline over shared clocks.
-use Rattle.std.specs.Prelude.{◌≡◌, ℕ, ◌<◌, Option, Some, None, unsigned_abs}
+use Rattle.std.specs.Prelude.{◌≡◌, ℕ, ◌+◌, ◌<◌, Option, Some, None, unsigned_abs}
 use Rattle.tk_counter.specs.Counter.{Counter}
 use Rattle.tk_clock.specs.declared.command.Command.TheVariants.{Update}
 use Rattle.tk_clock.specs.declared.refusal.Refusal.{Refusal}
@@ -17,7 +17,8 @@ use Rattle.tk_shared_steered.specs.Given.{IsNotGiven}
 use Rattle.tk_shared_steered.specs.Owner.{Owner, IsFollowing}
 
 -- the clocks of a caller, with a fresh discipline with this `hz`: its update is the first command
--- since the clocks were opened
+-- since the clocks were opened. The opening, which is the one that `old` knows, determines the
+-- counter, `start` and `real`, whose nanoseconds `sound` bounds; the update's entry its reading
 pub record IsOpenedAs (hz : ℕ) (old new : Known) (clock : SteeredClock) : Type 0 where
   pub counter : Counter
   pub start : ℕ
@@ -25,8 +26,10 @@ pub record IsOpenedAs (hz : ℕ) (old new : Known) (clock : SteeredClock) : Type
   pub reading : ℕ
   pub seen :
       new.seen ≡ followed_by (opened counter start real) (entry_of old reading Update)
+  pub same : new.seen.opening ≡ old.seen.opening
   pub sound : steered_refusal counter start real hz ≡ None
   pub clock_is : clock ≡ followed reading Update (steered_opened counter start real hz)
+  pub counted : new.accepted ≡ old.accepted + 1
   pub informed : IsInformed new
   pub id : new.id ≡ old.id
 
@@ -35,20 +38,22 @@ pub record HasOpened (hz : ℕ) (old : Known) (owner : Owner) : Type 0 where
   pub clocks : IsOpenedAs hz old owner.caller owner.clock
   pub following : IsFollowing owner
 
--- why clocks can't be opened with a discipline as their first snapshot shows them: MONOTONIC is 0
--- at its reading, so REALTIME there is its offset
+-- REALTIME at the reading of a first snapshot: MONOTONIC is 0 there, so it is the offset
+abbrev pub real_shown : ReadBase → Timespec
+real_shown base = timespec_of (unsigned_abs base.real_offset)
+
+-- why clocks can't be opened with a discipline as their first snapshot shows them
 abbrev pub shown_refusal : ReadBase → ℕ → Option Refusal
-shown_refusal base hz =
-    steered_refusal base.counter base.last (timespec_of (unsigned_abs base.real_offset)) hz
+shown_refusal base hz = steered_refusal base.counter base.last (real_shown base) hz
 
 -- clocks with a fresh discipline, opened as a snapshot before any command shows them
 pub record IsShown (hz : ℕ) (snapshot : Snapshot) (clock : SteeredClock) : Type 0 where
-  pub real : Timespec
   pub none : snapshot.front ≡ 0
-  pub same : nanoseconds real ≡ snapshot.base.real_offset
-  pub sound : steered_refusal snapshot.base.counter snapshot.base.last real hz ≡ None
-  pub clock_is : clock ≡ steered_opened snapshot.base.counter snapshot.base.last real hz
-  pub shown : shown_refusal snapshot.base hz ≡ None
+  pub same : nanoseconds (real_shown snapshot.base) ≡ snapshot.base.real_offset
+  pub sound : shown_refusal snapshot.base hz ≡ None
+  pub clock_is :
+      let base = snapshot.base in
+      clock ≡ steered_opened base.counter base.last (real_shown base) hz
 
 -- why they can't be opened: a command was accepted before, or the clocks are refused
 abbrev pub IsNotShown : ℕ → Snapshot → SteeringFault → Type 0
@@ -56,7 +61,8 @@ IsNotShown hz snapshot Foreign = 0 < snapshot.front
 IsNotShown hz snapshot (Refused refusal) =
     (snapshot.front ≡ 0) × (shown_refusal snapshot.base hz ≡ Some refusal)
 
--- a caller read the page before any command was accepted
+-- a caller read the page before any command was accepted: `read` determines the snapshot, as that of
+-- the history that `new` has seen
 pub record HasSeenNone (old new : Known) : Type 0 where
   pub snapshot : Snapshot
   pub read : HasRead old new snapshot

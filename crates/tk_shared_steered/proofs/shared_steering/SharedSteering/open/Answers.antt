@@ -1,6 +1,6 @@
 use Rattle.std.proofs.Common.{sym}
 use Rattle.tk_shared_steered.specs.Opened.{NotGiven}
-use Rattle.tk_shared_steered.proofs.Opened.{given_as, open_in_step, unshown}
+use Rattle.tk_shared_steered.proofs.Opened.{open_in_step, opened_as, unshown}
 use Rattle.tk_shared_steered.proofs.shared_steering.SharedSteering.open.Goals as goal
 
 pub returns-in-Err : goal.returns-in-Err
@@ -13,7 +13,7 @@ pub invariant_of-result : goal.invariant_of-result
 invariant_of-result g c = λ following.
     open_in_step c.args.hz c.args.caller c.give.new.caller c.follow_command-accepted.new.self
     c.front-count.result
-    (given_as c.args.hz c.args.caller c.read-now.new.caller c.give.new.caller c.read-now.result
+    (opened_as c.args.hz c.args.caller c.read-now.new.caller c.give.new.caller c.read-now.result
     c.in-Ok-give.reading c.in-Ok.clock c.follow_command-accepted.new.self
     c.follow_command-accepted.result c.read-now.ensures.read c.in-Ok.ensures.answer
     c.in-Ok-give.ensures.answer c.follow_command-accepted.ensures.answer)
@@ -22,7 +22,7 @@ pub returns-in-Ok-give : goal.returns-in-Ok-give
 returns-in-Ok-give g c = record {
   answer = record {
     clocks =
-        given_as c.args.hz c.args.caller c.read-now.new.caller c.give.new.caller c.read-now.result
+        opened_as c.args.hz c.args.caller c.read-now.new.caller c.give.new.caller c.read-now.result
         c.in-Ok-give.reading c.in-Ok.clock c.follow_command-accepted.new.self
         c.follow_command-accepted.result c.read-now.ensures.read c.in-Ok.ensures.answer
         c.in-Ok-give.ensures.answer c.follow_command-accepted.ensures.answer;
@@ -36,5 +36,5 @@ returns-in-Err-give g c = record {
     snapshot = c.read-now.result;
     read = c.read-now.ensures.read;
     none = c.in-Ok.ensures.answer.none;
-  }) c.in-Ok.ensures.answer.shown c.in-Err-give.ensures.answer;
+  }) c.in-Ok.ensures.answer.sound c.in-Err-give.ensures.answer;
 }
