@@ -75,8 +75,11 @@ abbrev pub IsSteered : Owner → Owner → Type 0
 IsSteered old new = IsChanged (change_for old) old new
 
 -- an update, the leap of the second that began by it, and the rate that the present second needs:
--- `begun` says whether a second began
+-- `begun` says whether a second began, so it and `old` determine `leap`. The entries of the update
+-- and of the leap are the next ones after those that `old` has seen: their readings determine the
+-- discipline of `updated` and of `leapt`, and the entries that these have seen
 pub record HasBegunLate (begun : Bool) (old new : Owner) : Type 0 where
+  pub known : is_lost old ≡ false
   pub leap : Option Leap
   pub updated : Owner
   pub leapt : Owner
@@ -130,8 +133,8 @@ pub data HasStopped (fault : SteeringFault) (old new : Owner) : Type 0 where
   -- the discipline was lost already: no command was given
   Lost : fault ≡ Foreign → is_lost old ≡ true → new ≡ old → HasStopped fault old new
   -- a command was not given: the discipline is that of the last state before it
-  Stops : (cmd : Command) (last : Owner) → IsNext old cmd last → Stays cmd fault last new →
-      HasStopped fault old new
+  Stops : is_lost old ≡ false → (cmd : Command) (last : Owner) → IsNext old cmd last →
+      Stays cmd fault last new → HasStopped fault old new
 
 -- seconds began late, one after the other
 pub data HaveBegunLate : Owner → Owner → Type 0 where
@@ -139,13 +142,15 @@ pub data HaveBegunLate : Owner → Owner → Type 0 where
   Begins : (old middle new : Owner) → HasBegunLate true old middle → HaveBegunLate middle new →
       HaveBegunLate old new
 
--- all seconds began late that are due by the reading of the last update
+-- all seconds began late that are due by the reading of the last update. The entries that `new` has
+-- seen since determine `before`: at the reading of each update, the next second is due or it isn't
 pub record HasAdvancedLate (old new : Owner) : Type 0 where
   pub before : Owner
   pub begun : HaveBegunLate old before
   pub last : HasBegunLate false before new
 
--- the commands stopped after these seconds
+-- the commands stopped after these seconds. The first entries that `new` has seen since, up to its
+-- `count`, determine `before` in the same way
 pub record HasStoppedLate (fault : SteeringFault) (old new : Owner) : Type 0 where
   pub before : Owner
   pub begun : HaveBegunLate old before

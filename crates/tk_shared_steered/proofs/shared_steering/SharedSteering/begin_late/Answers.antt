@@ -1,11 +1,11 @@
-use Rattle.std.proofs.Common.{refl, sym, subst, ◌∙◌, inl, inr, Option}
+use Rattle.std.proofs.Common.{◌≡◌, refl, sym, subst, ◌∙◌, false, inl, inr, Option}
 use Rattle.std.proofs.lemmas.Result.{err_from_is_err_and}
 use Rattle.tk_clock.specs.declared.command.Command.TheVariants.{Update}
 use Rattle.tk_ntp.specs.declared.leap.Leap.{Leap}
 use Rattle.tk_ntp.specs.Advance.{leap_of_clock, seconds_left}
 use Rattle.tk_shared_steered.specs.declared.fault.SteeringFault.{SteeringFault}
 use Rattle.tk_shared_steered.specs.Late.{AfterLeap, AfterTick, AfterUpdate, AtFirst, HasStopped, IsLeapMadeIf, IsUpdated, Lost, StaysAfterTick, StaysAtLeap, Stops}
-use Rattle.tk_shared_steered.specs.Owner.{Owner}
+use Rattle.tk_shared_steered.specs.Owner.{Owner, is_lost}
 use Rattle.tk_shared_steered.proofs.Taken.{fewer}
 use Rattle.tk_shared_steered.proofs.shared_steering.SharedSteering.begin_late.Goals as goal
 
@@ -19,7 +19,8 @@ update-requires-clause-known g c κs within = c.is_lost.ensures.known c.if-is_lo
 pub returns-in_err-leap-clause-answer : goal.returns-in_err-leap-clause-answer
 returns-in_err-leap-clause-answer g c =
     let p = err_from_is_err_and c.from_residual.result c.from_residual.ensures.1 in
-    rw (p.1, p.2) (Stops Update c.args.self.now AtFirst c.in_err-leap.ensures.answer)
+    let known = sym c.is_lost.ensures.value ∙ c.if-is_lost.false in
+    rw (p.1, p.2) (Stops known Update c.args.self.now AtFirst c.in_err-leap.ensures.answer)
 
 pub returns-in_err-leap-clause-fewer : goal.returns-in_err-leap-clause-fewer
 returns-in_err-leap-clause-fewer g c =
@@ -33,9 +34,10 @@ pub make_leap-requires-clause-next : goal.make_leap-requires-clause-next
 make_leap-requires-clause-next g c κs within = c.in_ok-leap.ensures.next
 
 stopped_at_leap : (fault : SteeringFault) (leap : Option Leap) (old updated new : Owner) →
-    IsUpdated leap old updated → StaysAtLeap leap fault updated new → HasStopped fault old new
-stopped_at_leap fault leap old updated new u h =
-    Stops (leap_of_clock h.it updated.clock.clock) updated
+    is_lost old ≡ false → IsUpdated leap old updated → StaysAtLeap leap fault updated new →
+    HasStopped fault old new
+stopped_at_leap fault leap old updated new known u h =
+    Stops known (leap_of_clock h.it updated.clock.clock) updated
     (AfterUpdate h.it updated (subst (λ (l : Option Leap). IsUpdated l old updated) h.due u)
     h.leaps) h.stays
 
@@ -43,8 +45,9 @@ pub returns-in_err-make_leap-clause-answer : goal.returns-in_err-make_leap-claus
 returns-in_err-make_leap-clause-answer g c =
     let p = err_from_is_err_and c.from_residual-in_err-make_leap.result
     c.from_residual-in_err-make_leap.ensures.1 in
+    let known = sym c.is_lost.ensures.value ∙ c.if-is_lost.false in
     rw (p.1, p.2) (stopped_at_leap c.in_err-make_leap.field-0.0 c.in_ok-leap.leap c.args.self.now
-    c.update.new.self c.make_leap.new.self c.in_ok-leap.ensures.answer
+    c.update.new.self c.make_leap.new.self known c.in_ok-leap.ensures.answer
     c.in_err-make_leap.ensures.answer)
 
 pub returns-in_err-make_leap-clause-fewer : goal.returns-in_err-make_leap-clause-fewer
@@ -57,20 +60,21 @@ pub steer-requires-clause-known : goal.steer-requires-clause-known
 steer-requires-clause-known g c κs within = c.in_ok-make_leap.ensures.known
 
 stopped_late : (fault : SteeringFault) (leap : Option Leap) (old updated leapt new : Owner) →
-    IsUpdated leap old updated → IsLeapMadeIf leap updated leapt →
+    is_lost old ≡ false → IsUpdated leap old updated → IsLeapMadeIf leap updated leapt →
     StaysAfterTick fault leapt new → HasStopped fault old new
-stopped_late fault leap old updated leapt new u m (inl h) =
-    Stops h.it leapt (AfterLeap h.it leap updated leapt u m h.is) h.stays
-stopped_late fault leap old updated leapt new u m (inr ticked) =
-    Stops ticked.2.it ticked.0
+stopped_late fault leap old updated leapt new known u m (inl h) =
+    Stops known h.it leapt (AfterLeap h.it leap updated leapt u m h.is) h.stays
+stopped_late fault leap old updated leapt new known u m (inr ticked) =
+    Stops known ticked.2.it ticked.0
     (AfterTick ticked.2.it leap updated leapt ticked.0 u m ticked.1 ticked.2.is) ticked.2.stays
 
 pub returns-in_err-steer-clause-answer : goal.returns-in_err-steer-clause-answer
 returns-in_err-steer-clause-answer g c =
     let p = err_from_is_err_and c.from_residual-in_err-steer.result
     c.from_residual-in_err-steer.ensures.1 in
+    let known = sym c.is_lost.ensures.value ∙ c.if-is_lost.false in
     rw (p.1, p.2) (stopped_late c.in_err-steer.field-0.0 c.in_ok-leap.leap c.args.self.now
-    c.update.new.self c.make_leap.new.self c.steer.new.self c.in_ok-leap.ensures.answer
+    c.update.new.self c.make_leap.new.self c.steer.new.self known c.in_ok-leap.ensures.answer
     c.in_ok-make_leap.ensures.answer c.in_err-steer.ensures.answer)
 
 pub returns-in_err-steer-clause-fewer : goal.returns-in_err-steer-clause-fewer
@@ -81,6 +85,7 @@ returns-in_err-steer-clause-fewer g c =
 
 pub returns-clause-answer : goal.returns-clause-answer
 returns-clause-answer g c = record {
+  known = sym c.is_lost.ensures.value ∙ c.if-is_lost.false;
   leap = c.in_ok-leap.leap;
   updated = c.update.new.self;
   leapt = c.make_leap.new.self;
