@@ -100,7 +100,7 @@ steered_with snapshot first rest =
     counted_with (clock_with snapshot (saved_frequency first) (saved_tick first))
     (numbers_of_words rest)
 
--- steered clocks have this snapshot and these words, and they are written
+-- steered clocks have this snapshot and these words, which determine them, and they are written
 pub record IsNtpTaken (snapshot : Snapshot) (first rest : List ℕ) (new : NtpStorage)
     (code : ℕ) : Type 0 where
   pub running : IsRunningBy snapshot first
