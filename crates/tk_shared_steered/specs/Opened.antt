@@ -61,8 +61,8 @@ IsNotShown hz snapshot Foreign = 0 < snapshot.front
 IsNotShown hz snapshot (Refused refusal) =
     (snapshot.front ≡ 0) × (shown_refusal snapshot.base hz ≡ Some refusal)
 
--- a caller read the page before any command was accepted: `read` determines the snapshot, as that of
--- the history that `new` has seen
+-- a caller read the page before any command was accepted. `read` determines the snapshot: it is the
+-- one of the history that `new` has seen
 pub record HasSeenNone (old new : Known) : Type 0 where
   pub snapshot : Snapshot
   pub read : HasRead old new snapshot
