@@ -5,7 +5,7 @@
 //! | Item | Its meaning |
 //! |---|---|
 //! | `report` | makes the report of a script's bytes |
-//! | `report_bounded` | makes the report with no limit on commands, from a bounded journal |
+//! | `report_bounded` | makes the report with no limit on commands except of steered clocks |
 //! | `report_rows` | makes the report from a reader of rows, in the caller's memory, and counts the differences |
 //! | `CheckedReport` | holds a report, and the number of reads that do not give the value that they expect |
 //! | `replay` | reads a script to its end and writes its report |

@@ -1,139 +1,177 @@
--- Clocks that list no command give the replies of their journal, into which every command is folded.
-use Rattle.std.proofs.Common.{◌≡◌, ◌∙◌, ℕ, ◌+◌, ◌<◌, [], refl, sym, ap, subst, arith}
-use Rattle.std.specs.Prelude.{Option, Some, None, Result, Ok, Err}
+-- Clocks that list no command give the replies of every journal with which they agree.
+use Rattle.std.proofs.Common.{◌≡◌, ◌∙◌, ℕ, ◌+◌, ◌-◌, ◌<◌, ◌≤◌, length, refl, sym, ap, subst, arith, Bool, false}
+use Rattle.std.specs.Prelude.{Option, Some, None, Result, Ok, Err, nat_le, ◌||◌, if◌then◌else◌}
+use Rattle.std.proofs.lemmas.Bool.{le-leb, lt-leb}
 use Rattle.std.proofs.lemmas.List.{length_push}
-use Rattle.tk_counter.specs.Counter.{Counter, multiplier}
+use Rattle.tk_counter.specs.Counter.{Counter}
 use Rattle.tk_clock.specs.declared.command.Entry.{Entry}
 use Rattle.tk_clock.specs.declared.refusal.Refusal.{Refusal}
+use Rattle.tk_clock.specs.declared.refusal.Refusal.TheVariants.{Full}
 use Rattle.tk_clock.specs.ChangeCounter.{changed, change_refusal}
-use Rattle.tk_clock.specs.Folding.{IsAlike, journal_from}
 use Rattle.tk_clock.specs.Journal.{Journal, accepted_count, followed_by}
-use Rattle.tk_clock.specs.Limits.{counted_most}
-use Rattle.tk_clock.specs.Refusal.{clock_refusal, state_refusal}
+use Rattle.tk_clock.specs.Limits.{counted_most, listed_most}
+use Rattle.tk_clock.specs.Refusal.{clock_refusal, is_full, state_refusal}
 use Rattle.tk_clock.specs.Run.{reply_if}
 use Rattle.tk_clock.specs.Snapshot.{Snapshot, snapshot_of}
-use Rattle.tk_clock.specs.State.{ReadBase, State, base_value, effect, state_of}
-use Rattle.tk_clock.proofs.Alike.{IsAlike-self}
-use Rattle.tk_clock.proofs.Ledger.{base_value-base_of, clock_refusal-state}
-use Rattle.tk_clock.proofs.Start.{state_of-begun, state_of-started}
-use Rattle.tk_keeper.specs.ChangeCounter.{changed_by, counter_refusal}
-use Rattle.tk_keeper.specs.Keeper.{ReadsAs}
-use Rattle.tk_keeper.proofs.ChangeCounter.{counter_refusal-room}
-use Rattle.tk_keeper.proofs.Commands.{running-accepted}
-use Rattle.tk_report.specs.Folding.{IsReplied}
-use Rattle.tk_report.specs.Report.{reply_by}
-use Rattle.tk_report.proofs.Folded.{by_answer}
+use Rattle.tk_clock.specs.State.{ReadBase, State, state_of}
+use Rattle.tk_clock.proofs.Ledger.{clock_refusal-state}
+use Rattle.tk_clock.proofs.Refusals.{first_refusal-room}
+use Rattle.tk_clock.proofs.Start.{state_of-begun}
+use Rattle.tk_clock.proofs.Stretches.{last_reading-followed_by}
+use Rattle.tk_keeper.specs.ChangeCounter.{counter_refusal}
+use Rattle.tk_keeper.proofs.ChangeCounter.{counter_refusal-full, counter_refusal-room}
+use Rattle.tk_script.specs.declared.opening.Start.{Start}
+use Rattle.tk_script.specs.Start.{journal_at}
+use Rattle.tk_report.specs.CountedClocks.{Counted, IsKept, IsReplied, most_of}
+use Rattle.tk_report.specs.Folding.{rule_of}
+use Rattle.tk_report.specs.Report.{change_if, change_reply, reply_by}
+use Rattle.tk_report.proofs.Beginnings.{count-at}
 
--- the multiplier of clocks follows from their frequency and tick
-abbrev pub IsSteered : State → Type 0
-IsSteered clock = clock.base.mult ≡ multiplier clock.base.counter clock.frequency clock.tick
-
--- the journal refuses a command for the same reason as the clocks
-refusal-clocks : (count : ℕ) (clock : State) (entry : Entry) → IsSteered clock →
-    clock_refusal (journal_from count clock []) entry
-    ≡ state_refusal clock entry.reading entry.cmd
-refusal-clocks count clock entry steered =
-    clock_refusal-state (journal_from count clock []) entry.who entry.reading entry.cmd
-    ∙ ap (λ (s : State). state_refusal s entry.reading entry.cmd)
-    (state_of-begun count clock steered)
-
--- a command that the clocks refuse leaves the journal unchanged
-pub IsReplied-refused : (count : ℕ) (clock : State) (entry : Entry) (refusal : Refusal) →
-    IsSteered clock → state_refusal clock entry.reading entry.cmd ≡ Some refusal →
-    IsReplied (reply_by clock_refusal (journal_from count clock []) entry) (Err refusal)
-    (journal_from count clock [])
-IsReplied-refused count clock entry refusal steered refused =
-    let journal = journal_from count clock [] in
-    let answer : Result ℕ Refusal = Err refusal in
-    let known : clock_refusal journal entry ≡ Some refusal =
-    refusal-clocks count clock entry steered ∙ refused in
-    let P : Option Refusal → Type 0 = λ r.
-    ((reply_if journal entry r).answer ≡ answer) × IsAlike journal (reply_if journal entry r).journal
-    in
-    by_answer (reply_by clock_refusal journal entry) answer journal
-    (λ other. subst P (sym known) (refl, IsAlike-self journal))
-
--- a command that the clocks accept is folded into the journal
-pub IsReplied-accepted : (count : ℕ) (before after : State) (entry : Entry) →
-    IsSteered before → IsSteered after →
-    (state_refusal before entry.reading entry.cmd ≡ None)
-    × (after ≡ effect before entry.reading entry.cmd) →
-    IsReplied (reply_by clock_refusal (journal_from count before []) entry) (Ok (count + 1))
-    (journal_from (count + 1) after [])
-IsReplied-accepted count before after entry steered steered' done =
-    let journal = journal_from count before [] in
-    let next = journal_from (count + 1) after [] in
-    let answer : Result ℕ Refusal = Ok (count + 1) in
-    let passed : clock_refusal journal entry ≡ None =
-    refusal-clocks count before entry steered ∙ done.0 in
-    let state : state_of next ≡ state_of (followed_by journal entry) =
-    state_of-begun (count + 1) after steered'
-    ∙ running-accepted journal before after entry (sym (state_of-begun count before steered)) done
-    in
-    let number : accepted_count next ≡ accepted_count (followed_by journal entry) =
-    omega (arith, length_push journal.entries entry) in
-    let first : accepted_count journal ≡ count = omega arith in
-    let P : Option Refusal → Type 0 = λ r.
-    ((reply_if journal entry r).answer ≡ answer) × IsAlike next (reply_if journal entry r).journal in
-    subst P (sym passed) (
-      ap (λ n. let told : Result ℕ Refusal = Ok (n + 1) in told) first,
-      record { state = state; count = number },
-    )
-
--- clocks that list no command agree with the journal whose count and clocks they have
-pub IsAlike-counted : (journal counted : Journal) (count : ℕ) (clock : State) →
-    counted ≡ journal_from count clock [] → count ≡ accepted_count journal →
-    clock ≡ state_of journal → IsAlike counted journal
-IsAlike-counted journal counted count clock made number running =
-    let same : counted ≡ journal_from (accepted_count journal) (state_of journal) [] =
-    made ∙ ap (λ n. journal_from n clock []) number
-    ∙ ap (λ (s : State). journal_from (accepted_count journal) s []) running in
-    subst (λ (j : Journal). IsAlike j journal) (sym same)
-    (record {
-      state = state_of-started (accepted_count journal) journal;
-      count = omega arith;
-    })
+-- clocks with the count and the state of the journal with which a script begins
+pub IsKept-begun : (keep : Option ℕ) (start : Start) (journal : Journal) (clock : State)
+    (count most : ℕ) →
+    journal ≡ journal_at start → clock ≡ state_of journal → count ≡ accepted_count journal →
+    most ≡ most_of keep →
+    IsKept keep (record { clock = clock; count = count; since = count; most = most })
+    (journal_at start)
+IsKept-begun keep start journal clock count most same state number limit = record {
+  clock = state ∙ ap state_of same;
+  count = number ∙ ap accepted_count same;
+  since = number ∙ ap accepted_count same ∙ count-at start;
+  most = limit;
+}
 
 -- their snapshot is the journal's
-pub snapshot-counted : (count : ℕ) (clock : State) → IsSteered clock →
-    record { front = count; base = clock.base } ≡ snapshot_of (journal_from count clock [])
-snapshot-counted count clock steered =
-    let journal = journal_from count clock [] in
+pub snapshot-kept : (keep : Option ℕ) (clocks : Counted) (journal : Journal) →
+    IsKept keep clocks journal →
+    record { front = clocks.count; base = clocks.clock.base } ≡ snapshot_of journal
+snapshot-kept keep clocks journal kept =
     let put : ℕ → ReadBase → Snapshot = λ n b. record { front = n; base = b } in
-    let number : count ≡ accepted_count journal = omega arith in
-    ap (λ n. put n clock.base) number
-    ∙ ap (λ (s : State). put (accepted_count journal) s.base)
-    (sym (state_of-begun count clock steered))
+    ap (λ n. put n clocks.clock.base) kept.count
+    ∙ ap (λ (s : State). put (accepted_count journal) s.base) kept.clock
 
--- a journal's snapshot gives every clock the journal's value
-pub ReadsAs-snapshot : (journal : Journal) (snapshot : Snapshot) → snapshot ≡ snapshot_of journal →
-    ReadsAs journal snapshot.base
-ReadsAs-snapshot journal snapshot same = λ clock reading.
-    ap (λ (s : Snapshot). base_value s.base clock reading) same
-    ∙ base_value-base_of journal clock reading
+-- both refuse the same commands
+not_full : (journal : Journal) → length journal.entries < listed_most →
+    accepted_count journal < counted_most → is_full journal ≡ false
+not_full journal listed counted =
+    let number = accepted_count journal in
+    ap (λ (b : Bool). b || nat_le counted_most number)
+    (lt-leb listed_most (length journal.entries) listed)
+    ∙ lt-leb counted_most number counted
 
--- the journal refuses a change of counter for the same reason as the clocks
-pub change_refusal-counted : (count : ℕ) (clock : State) (reading : ℕ) (counter : Counter)
-    (first : ℕ) → IsSteered clock → count < counted_most →
-    counter_refusal (journal_from count clock []) reading counter first
-    ≡ change_refusal clock reading counter first
-change_refusal-counted count clock reading counter first steered room =
-    let journal = journal_from count clock [] in
-    let few : accepted_count journal < counted_most = omega (arith, room) in
-    counter_refusal-room journal reading counter first few
-    ∙ ap (λ (s : State). change_refusal s reading counter first)
-    (state_of-begun count clock steered)
+refusal-clocks : (keep : Option ℕ) (clocks : Counted) (journal : Journal) (entry : Entry) →
+    IsKept keep clocks journal →
+    clock_refusal journal entry ≡ state_refusal clocks.clock entry.reading entry.cmd
+refusal-clocks keep clocks journal entry kept =
+    clock_refusal-state journal entry.who entry.reading entry.cmd
+    ∙ ap (λ (s : State). state_refusal s entry.reading entry.cmd) (sym kept.clock)
 
--- a change that the clocks accept leaves the journal of a change
-pub changed_by-counted : (count : ℕ) (clock after : State) (reading : ℕ) (counter : Counter)
-    (first : ℕ) → IsSteered clock → after ≡ changed clock reading counter first →
-    journal_from (count + 1) after []
-    ≡ changed_by (journal_from count clock []) reading counter first
-changed_by-counted count clock after reading counter first steered stated =
-    let journal = journal_from count clock [] in
-    let number : count ≡ accepted_count journal = omega arith in
-    let next : ℕ → State → Journal = λ n s.
-    journal_from (n + 1) (changed s reading counter first) [] in
-    ap (λ (s : State). journal_from (count + 1) s []) stated
-    ∙ ap (λ n. next n clock) number
-    ∙ ap (next (accepted_count journal)) (sym (state_of-begun count clock steered))
+pub rule-room : (keep : Option ℕ) (clocks : Counted) (journal : Journal) (entry : Entry) →
+    IsKept keep clocks journal → clocks.count < counted_most →
+    clocks.count - clocks.since < clocks.most →
+    rule_of keep journal entry ≡ state_refusal clocks.clock entry.reading entry.cmd
+rule-room None clocks journal entry kept few room =
+    let listed : length journal.entries < listed_most =
+    omega (arith, kept.count, kept.since, kept.most, room) in
+    let counted : accepted_count journal < counted_most = omega (arith, kept.count, few) in
+    first_refusal-room journal entry (not_full journal listed counted)
+    ∙ refusal-clocks None clocks journal entry kept
+rule-room (Some keep) clocks journal entry kept few room =
+    refusal-clocks (Some keep) clocks journal entry kept
+
+pub rule-full : (keep : Option ℕ) (clocks : Counted) (journal : Journal) (entry : Entry) →
+    IsKept keep clocks journal → clocks.count < counted_most →
+    clocks.most ≤ clocks.count - clocks.since → rule_of keep journal entry ≡ Some Full
+rule-full None clocks journal entry kept few full =
+    let listed : listed_most ≤ length journal.entries =
+    omega (arith, kept.count, kept.since, kept.most, full) in
+    ap (λ (b : Bool). if b || nat_le counted_most (accepted_count journal) then Some Full
+    else clock_refusal journal entry)
+    (le-leb listed_most (length journal.entries) listed)
+rule-full (Some keep) clocks journal entry kept few full =
+    absurd (omega (arith, kept.most, few, full))
+
+-- a refused command leaves the clocks unchanged
+pub IsReplied-refused : (keep : Option ℕ) (clocks : Counted) (journal : Journal) (entry : Entry)
+    (refusal : Refusal) → IsKept keep clocks journal →
+    rule_of keep journal entry ≡ Some refusal →
+    IsReplied keep entry.reading (Err refusal) clocks (reply_by (rule_of keep) journal entry)
+IsReplied-refused keep clocks journal entry refusal kept refused =
+    subst (λ (r : Option Refusal).
+    IsReplied keep entry.reading (Err refusal) clocks (reply_if journal entry r))
+    (sym refused) (record { answer = refl; kept = kept; last = tt })
+
+-- an accepted one brings them forward
+pub IsReplied-accepted : (keep : Option ℕ) (clocks : Counted) (after : State) (journal : Journal)
+    (entry : Entry) → IsKept keep clocks journal → rule_of keep journal entry ≡ None →
+    after ≡ state_of (followed_by journal entry) →
+    IsReplied keep entry.reading (Ok (clocks.count + 1))
+    (record clocks { clock = after; count = clocks.count + 1 })
+    (reply_by (rule_of keep) journal entry)
+IsReplied-accepted keep clocks after journal entry kept passed state =
+    let next : Counted = record clocks { clock = after; count = clocks.count + 1 } in
+    let answer : Result ℕ Refusal = Ok (clocks.count + 1) in
+    subst (λ (r : Option Refusal).
+    IsReplied keep entry.reading answer next (reply_if journal entry r))
+    (sym passed) (record {
+      answer = ap (λ n. let told : Result ℕ Refusal = Ok (n + 1) in told) (sym kept.count);
+      kept = record {
+        clock = state;
+        count = omega (arith, kept.count, length_push journal.entries entry);
+        since = kept.since;
+        most = kept.most;
+      };
+      last = last_reading-followed_by journal entry;
+    })
+
+-- both refuse the same changes of counter
+pub change-room : (keep : Option ℕ) (clocks : Counted) (journal : Journal) (reading : ℕ)
+    (counter : Counter) (first : ℕ) → IsKept keep clocks journal → clocks.count < counted_most →
+    counter_refusal journal reading counter first
+    ≡ change_refusal clocks.clock reading counter first
+change-room keep clocks journal reading counter first kept few =
+    let counted : accepted_count journal < counted_most = omega (arith, kept.count, few) in
+    counter_refusal-room journal reading counter first counted
+    ∙ ap (λ (s : State). change_refusal s reading counter first) (sym kept.clock)
+
+pub change-full : (keep : Option ℕ) (clocks : Counted) (journal : Journal) (reading : ℕ)
+    (counter : Counter) (first : ℕ) → IsKept keep clocks journal → counted_most ≤ clocks.count →
+    counter_refusal journal reading counter first ≡ Some Full
+change-full keep clocks journal reading counter first kept full =
+    counter_refusal-full journal reading counter first (omega (arith, kept.count, full))
+
+pub IsReplied-unchanged : (keep : Option ℕ) (clocks : Counted) (journal : Journal) (reading : ℕ)
+    (counter : Counter) (first : ℕ) (refusal : Refusal) → IsKept keep clocks journal →
+    counter_refusal journal reading counter first ≡ Some refusal →
+    IsReplied keep first (Err refusal) clocks (change_reply journal reading counter first)
+IsReplied-unchanged keep clocks journal reading counter first refusal kept refused =
+    subst (λ (r : Option Refusal).
+    IsReplied keep first (Err refusal) clocks (change_if journal reading counter first r))
+    (sym refused) (record { answer = refl; kept = kept; last = tt })
+
+pub IsReplied-changed : (keep : Option ℕ) (clocks : Counted) (after : State) (journal : Journal)
+    (reading : ℕ) (counter : Counter) (first : ℕ) → IsKept keep clocks journal →
+    counter_refusal journal reading counter first ≡ None →
+    after ≡ changed clocks.clock reading counter first →
+    IsReplied keep first (Ok (clocks.count + 1))
+    (record clocks { clock = after; count = clocks.count + 1; since = clocks.count + 1 })
+    (change_reply journal reading counter first)
+IsReplied-changed keep clocks after journal reading counter first kept passed state =
+    let number = clocks.count + 1 in
+    let next : Counted = record clocks { clock = after; count = number; since = number } in
+    let answer : Result ℕ Refusal = Ok number in
+    subst (λ (r : Option Refusal).
+    IsReplied keep first answer next (change_if journal reading counter first r))
+    (sym passed) (record {
+      answer = ap (λ n. let told : Result ℕ Refusal = Ok (n + 1) in told) (sym kept.count);
+      kept = record {
+        clock = state
+            ∙ ap (λ (s : State). changed s reading counter first) kept.clock
+            ∙ sym (state_of-begun (accepted_count journal + 1)
+            (changed (state_of journal) reading counter first) refl);
+        count = omega (arith, kept.count);
+        since = ap (λ n. n + 1) kept.count;
+        most = kept.most;
+      };
+      last = refl;
+    })

@@ -1,12 +1,7 @@
 pub mod KnownBytes
 pub mod Times
-pub mod Refusals
+pub mod Looks
 pub mod Lines
-pub mod Alike
-pub mod Changes
-pub mod Counted
-pub mod Folded
-pub mod Listed
 pub mod Journals
 pub mod Traces
 mod Worked

@@ -1,5 +1,5 @@
 -- The reply to a request can be written.
-use Rattle.std.proofs.Common.{◌≡◌, ℕ, ◌<◌, ◌^◌, refl, sym, subst, arith, Bool, true, false}
+use Rattle.std.proofs.Common.{◌≡◌, ℕ, ◌<◌, refl, sym, subst, arith, Bool, true, false}
 use Rattle.std.proofs.Math.Nat.{mod-lt}
 use Rattle.std.specs.Prelude.{ℤ, pos, ◌/◌, unsigned_abs, Option, Some, None, Result, Ok, Err, MatchOption, if◌then◌else◌}
 use Rattle.tk_clock.specs.declared.clock_id.ClockId.TheVariants.{Realtime}

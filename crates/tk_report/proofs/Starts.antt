@@ -1,5 +1,5 @@
 -- The report and the journal of a script, by the way in which its clocks begin.
-use Rattle.std.proofs.Common.{◌≡◌, ◌∙◌, ℕ, List, refl, sym, ap, subst}
+use Rattle.std.proofs.Common.{◌≡◌, ◌∙◌, ℕ, List, sym, ap, subst}
 use Rattle.std.specs.Prelude.{⊤, Option, Result, Ok, Err, MatchResult}
 use Rattle.tk_clock.specs.Journal.{Journal}
 use Rattle.tk_script.specs.declared.opening.Start.{Start}

@@ -9,9 +9,11 @@ use Rattle.tk_clock.specs.declared.refusal.ReadError.TheVariants.{Invalid, Range
 use Rattle.tk_clock.specs.Clocks.{clock_value}
 use Rattle.tk_clock.specs.Journal.{Journal}
 use Rattle.tk_clock.specs.Limits.{limit, clock_end}
+use Rattle.tk_clock.specs.Refusal.{read_refusal}
+use Rattle.tk_clock.specs.State.{ReadBase, base_value}
 use Rattle.tk_clock.specs.Time.{nanoseconds}
 use Rattle.tk_clock.proofs.Settings.{below-of}
-use Rattle.tk_keeper.specs.Read.{IsTimeOf, read_fault}
+use Rattle.tk_keeper.specs.Read.{IsTimeOf}
 use Rattle.tk_ntp.proofs.Real.{timespec_of-parts}
 use Rattle.tk_script.specs.Lines.{IsWritable}
 use Rattle.tk_report.specs.Report.{IsTimeAt}
@@ -57,11 +59,11 @@ not_past false true known = refl
 not_past false false known = cc
 
 -- the time of a read that is not refused can be written
-pub IsWritable-read : (journal : Journal) (clock : ClockId) (reading : ℕ) (time : Timespec) →
-    read_fault journal clock reading ≡ None → IsTimeOf (clock_value journal clock reading) time →
+pub IsWritable-read : (base : ReadBase) (clock : ClockId) (reading : ℕ) (time : Timespec) →
+    read_refusal base clock reading ≡ None → IsTimeOf (base_value base clock reading) time →
     IsWritable time
-IsWritable-read journal clock reading time free known =
-    let value = clock_value journal clock reading in
+IsWritable-read base clock reading time free known =
+    let value = base_value base clock reading in
     let low : int_lt value (limit clock) ≡ true = not_past _ _ free in
     let below = below-of value (limit clock) low in
     let most = limit_most clock in

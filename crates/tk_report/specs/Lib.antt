@@ -5,6 +5,7 @@ pub mod Report
 pub mod SteeredReport
 pub mod Reports
 pub mod Folding
+pub mod CountedClocks
 pub mod Replay
 pub mod Trace
 pub mod Many

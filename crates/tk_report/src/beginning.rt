@@ -1,12 +1,9 @@
 //! Makes the clocks with which a script begins.
 ghost use Rattle.std.specs.Prelude.{◌≡◌, ◌≤◌, None};
-ghost use Rattle.tk_clock.specs.Folding.{IsAlike};
 ghost use Rattle.tk_ntp.specs.SteeredClock.{steered_refusal};
 ghost use Rattle.tk_report.specs.SteeredReport.{continued_from, steered_from};
 ghost use Rattle.tk_script.specs.Start.{IsOpenable, journal_at, most_front};
 
-use crate::counted_clocks::CountedClocks;
-use crate::report_clocks::FoldedClocks;
 use std::alloc::Allocator;
 use tk_keeper::Timekeeper;
 use tk_ntp::SteeredClock;
@@ -27,39 +24,6 @@ pub(crate) fn keeper_at<A: Allocator + Copy>(alloc: A, start: Start) -> Timekeep
         Start::Continued { clock, front } => {
             Timekeeper::open_from(alloc, clock.clock(), front).unwrap()
         }
-    }
-}
-
-/// Begins the same clocks, which list no command.
-pub(crate) fn counted_at<A: Allocator + Copy>(alloc: A, start: Start) -> CountedClocks
-    requires { IsOpenable start }
-    ensures alike { IsAlike result (journal_at start) }
-    ensures opening { (journal_at start).opening.count ≤ result.opening.count }
-{
-    let keeper = keeper_at(alloc, start);
-    CountedClocks::new(*keeper.clock(), keeper.len() as u64)
-}
-
-/// Begins the same clocks, whose journal is folded to its last `keep` entries when it is full.
-pub(crate) fn folded_at<A: Allocator + Copy>(alloc: A, start: Start, keep: u64) -> FoldedClocks<A>
-    requires { IsOpenable start }
-    ensures journal { result.keeper.journal ≡ journal_at start }
-    ensures keep { result.keep ≡ keep }
-{
-    FoldedClocks {
-        keeper: keeper_at(alloc, start),
-        keep,
-    }
-}
-
-/// Returns the number of commands that the clocks accepted before the script.
-pub(crate) fn commands_before(start: Start) -> usize
-    requires { IsOpenable start }
-    ensures { result ≡ (journal_at start).opening.count }
-{
-    match start {
-        Start::Opened(_) | Start::Steered { .. } => 0,
-        Start::Running { front, .. } | Start::Continued { front, .. } => front as usize,
     }
 }
 

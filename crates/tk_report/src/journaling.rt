@@ -9,13 +9,15 @@ ghost use Rattle.tk_script.specs.Start.{IsOpenable, journal_at};
 ghost use Rattle.tk_report.specs.Report.{after};
 ghost use Rattle.tk_report.specs.Trace.{IsJournalOf, journal_after};
 
-use crate::applying::CALLER;
 use crate::beginning::{continued_at, keeper_at, steered_at};
 use crate::steered_journaling::steered_after;
 use std::alloc::{Allocator, Global};
 use tk_clock::Refusal;
 use tk_keeper::Timekeeper;
 use tk_script::{Row, RowReader, ScriptError, Start};
+
+/// The caller number of all commands of a script.
+pub(crate) const CALLER: u32 = 0;
 
 /// Begins the clocks of a script, applies its commands, and returns them with their journal.
 ///

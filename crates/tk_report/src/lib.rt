@@ -4,7 +4,7 @@
 //! | Item | Its meaning |
 //! |---|---|
 //! | `report` | makes the report of a script's bytes |
-//! | `report_bounded` | makes the report from a bounded journal, with no limit on commands except of steered clocks |
+//! | `report_bounded` | makes the report with no limit on commands except of steered clocks |
 //! | `report_rows` | makes the report from a reader of rows, in the caller's memory, and counts the differences |
 //! | `CheckedReport` | holds a report, and the number of reads that do not give the value that they expect |
 //! | `replay` | reads a script to its end and writes its report |
@@ -25,7 +25,6 @@
 //! Units: readings in cycles; times in seconds and nanoseconds; texts and lengths in bytes.
 #![tactic(auto)]
 
-mod applying;
 mod beginning;
 mod checked_report;
 mod converting;
@@ -35,7 +34,6 @@ mod journaling;
 mod many;
 mod many_error;
 mod replaying;
-mod report_clocks;
 mod reporting;
 mod row_reporting;
 mod sink;

@@ -42,8 +42,8 @@ pub fn replay<R: Source, W: Sink>(
 /// Reads a script to its end, makes its report as `report_bounded` does, writes it and flushes.
 /// Returns the same number as `replay`.
 ///
-/// `keep` is from 1 to 524,288. No command is refused as `Full`, unless a discipline steers the
-/// clocks: their journal is never folded.
+/// `keep` is from 1 to 524,288, and changes no line. No command is refused as `Full`, unless a
+/// discipline steers the clocks: their journal is never folded.
 ///
 /// # Errors
 ///
@@ -65,8 +65,8 @@ pub fn replay_bounded<R: Source, W: Sink>(
 
 /// Does the same as `replay` without `keep`, and the same as `replay_bounded` with `keep`.
 ///
-/// `keep` is at most 524,288. A full journal is folded to its last `keep` entries; without `keep`
-/// it refuses commands. The journal of clocks that a discipline steers is never folded.
+/// `keep` is at most 524,288. Without it, a full journal refuses commands. With it, no command is
+/// refused as `Full`, unless a discipline steers the clocks.
 ///
 /// # Errors
 ///

@@ -1,15 +1,14 @@
 //! Makes the report of rows, by the way in which the clocks begin.
-ghost use Rattle.std.specs.Prelude.{◌≡◌, ◌≤◌, MatchResult};
+ghost use Rattle.std.specs.Prelude.{◌≤◌, MatchResult};
 ghost use Rattle.std.specs.Option.{ForSome};
 ghost use Rattle.tk_clock.specs.Limits.{most_kept};
-ghost use Rattle.tk_script.specs.Coming.{IsReady, coming, opened_with};
+ghost use Rattle.tk_script.specs.Coming.{IsReady, coming};
 ghost use Rattle.tk_script.specs.Grammar.{Fails};
 ghost use Rattle.tk_script.specs.Start.{IsOpenable};
 ghost use Rattle.tk_report.specs.Folding.{rule_of};
-ghost use Rattle.tk_report.specs.Report.{IsPlainReportOfRows, differences_of};
 ghost use Rattle.tk_report.specs.Reports.{IsReportOfRows};
 
-use crate::beginning::{continued_at, counted_at, folded_at, steered_at};
+use crate::beginning::{continued_at, steered_at};
 use crate::checked_report::CheckedReport;
 use crate::reporting::report_plain;
 use crate::steered_reporting::report_steered;
@@ -20,9 +19,9 @@ use tk_script::{RowReader, ScriptError, Start};
 /// not give the value that their record states.
 ///
 /// One call of `RowReader::open` must have returned `start` and `rows`. With `keep`, at most
-/// 524,288, a full journal is folded to its last `keep` entries, and no command is refused as
-/// `Full`, unless a discipline steers the clocks: their journal is never folded. Report and journal
-/// are allocated from `alloc`; the reader of the rows allocates from its own allocator.
+/// 524,288, the report is made as `report_bounded` does, and otherwise as `report` does. The report,
+/// and the journal of steered clocks, are allocated from `alloc`; the reader of the rows allocates
+/// from its own allocator.
 ///
 /// # Errors
 ///
@@ -48,30 +47,6 @@ pub fn report_rows<A: Allocator + Copy>(
         Start::Continued { clock, front } => {
             report_steered(alloc, continued_at(alloc, clock, front), rows)
         }
-        Start::Opened(_) | Start::Running { .. } => report_unsteered(alloc, start, rows, keep),
-    }
-}
-
-/// Makes the report of `report_rows` for clocks that no discipline steers. Only a report whose
-/// journal is folded lists commands.
-fn report_unsteered<A: Allocator + Copy>(
-    alloc: A,
-    start: Start,
-    rows: &mut RowReader<'_>,
-    keep: Option<u64>,
-) -> Result<CheckedReport<A>, ScriptError>
-    requires opens { IsOpenable start }
-    requires ready { IsReady rows.old }
-    requires keep { ForSome keep (λ n. n ≤ most_kept) }
-    ensures { MatchResult result
-        (λ report. IsPlainReportOfRows (rule_of keep) start (coming rows.old) report.text.items
-        × (report.differences ≡ differences_of (rule_of keep) (opened_with start (coming rows.old))))
-        (λ error. Fails error (coming rows.old)) }
-{
-    // the borrow checker covers only one use of a value of this size
-    let same = start;
-    match keep {
-        None => report_plain(alloc, start, counted_at(alloc, same), rows),
-        Some(keep) => report_plain(alloc, start, folded_at(alloc, same, keep), rows),
+        Start::Opened(_) | Start::Running { .. } => report_plain(alloc, start, rows, keep),
     }
 }

@@ -4,7 +4,7 @@ ghost use Rattle.tk_report.specs.SteeredReport.{IsSteeredAfter, IsSteeredJournal
 ghost use Rattle.tk_script.specs.Coming.{IsReady, coming};
 ghost use Rattle.tk_script.specs.Grammar.{Fails};
 
-use crate::applying::CALLER;
+use crate::journaling::CALLER;
 use crate::steered_reporting::begin_seconds;
 use std::alloc::Allocator;
 use tk_clock::Refusal;

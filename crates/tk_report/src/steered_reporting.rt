@@ -6,8 +6,8 @@ ghost use Rattle.tk_report.specs.SteeredReport.{IsAcceptedLine, IsAnswerLine, Is
 ghost use Rattle.tk_script.specs.Coming.{IsReady, coming};
 ghost use Rattle.tk_script.specs.Grammar.{Fails};
 
-use crate::applying::CALLER;
 use crate::checked_report::CheckedReport;
+use crate::journaling::CALLER;
 use crate::reporting::{add_difference, add_look};
 use std::alloc::Allocator;
 use tk_clock::{ClockId, Command, Refusal};
@@ -73,7 +73,8 @@ fn add_steered_line<A: Allocator + Copy>(
             expected,
         } => {
             begin_seconds(clocks, reading)?;
-            add_look(text, calendar, clocks.keeper(), reading, clock, expected)
+            let now = clocks.keeper().snapshot();
+            add_look(text, calendar, &now, reading, clock, expected)
         }
         // the lag is in units of the counter, so its discipline can't continue over another one
         Row::Change { .. } => {
