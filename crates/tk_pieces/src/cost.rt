@@ -5,7 +5,7 @@
 //! the keeper keeps, one for each `KEPT_EVERY` commands. A sample of the fronts gives their number.
 //! The times were measured on the machine that `bench/README.md` describes; no value of a trace
 //! depends on them.
-ghost use Rattle.std.specs.Prelude.{◌<◌, length, IfSome, IsTrue};
+ghost use Rattle.std.specs.Prelude.{◌<◌, length, IfSome};
 
 use crate::input::Input;
 use rayon::current_num_threads;
@@ -46,17 +46,6 @@ const PIECE_NS: u64 = 131_072;
 /// The sizes of pieces are multiples of this number of items.
 const LANES: usize = 32;
 
-/// Returns whether several threads convert a list sooner than one does. `each_ns` is the estimated
-/// time of an item.
-fn is_long<R: Threads>(rt: &R, stamps: &[u64], each_ns: u64) -> bool
-    ensures { IsTrue result → 0 < length stamps.now }
-{
-    let count = stamps.len();
-    count >= ESTIMATED
-        && each_ns.saturating_mul(count as u64) >= LONG_NS
-        && current_num_threads(rt) > 1
-}
-
 /// Returns the number of items of a piece, if several threads convert a list sooner than one does.
 pub(crate) fn piece_size<R: Threads, A: Allocator + Copy>(
     rt: &R,
@@ -65,7 +54,9 @@ pub(crate) fn piece_size<R: Threads, A: Allocator + Copy>(
     ensures { IfSome result (λ size. (0 < size) × (0 < length input.entry.stamps.now)) }
 {
     let each_ns = estimated_ns(input);
-    if !is_long(rt, input.stamps, each_ns) {
+    let count = input.stamps.len();
+    let is_long = count >= ESTIMATED && each_ns.saturating_mul(count as u64) >= LONG_NS;
+    if !is_long || current_num_threads(rt) <= 1 {
         return None;
     }
     let items = PIECE_NS / each_ns.max(1);

@@ -4,7 +4,7 @@
 //! converts the list again from the beginning of the first such piece to the fault. All indices are
 //! places in the whole list, so a fault is returned as the keeper found it. `stages` makes new
 //! lists.
-ghost use Rattle.std.specs.Prelude.{◌≡◌, ◌+◌, ◌<◌, ◌≤◌, drop, length, MatchResult};
+ghost use Rattle.std.specs.Prelude.{◌≡◌, ◌+◌, ◌<◌, ◌≤◌, length, MatchResult};
 ghost use Rattle.tk_keeper.specs.Trace.{AreValues, IsConverted, IsFault};
 ghost use Rattle.tk_pieces.specs.Input.{of_input};
 ghost use Rattle.tk_pieces.specs.Pieces.{ArePieces, IsPiece, IsTracedInPieces, IsTracedUpTo};
