@@ -30,7 +30,10 @@ impl Frequent for Row {
 
     #[inline(always)]
     fn leading(text: &[u8]) -> Option<(Row, &[u8])> {
-        leading_row(text)
+        match leading_update(text) {
+            Some(found) => Some(found),
+            None => leading_look(text),
+        }
     }
 }
 
@@ -39,19 +42,10 @@ impl Frequent for (u64, u64) {
 
     #[inline(always)]
     fn leading(text: &[u8]) -> Option<((u64, u64), &[u8])> {
-        leading_stamp(text)
-    }
-}
-
-/// Parses an update or a read at the beginning of a text, and returns its row and the text after
-/// its line.
-#[inline(always)]
-fn leading_row(text: &[u8]) -> Option<(Row, &[u8])>
-    ensures { IfSome result (λ found. FirstLineGives row_of text.now found.0 found.1.now) }
-{
-    match leading_update(text) {
-        Some(found) => Some(found),
-        None => leading_look(text),
+        let (front, end) = leading_number(text)?;
+        let (stamp, end) = leading_number(skip(end, b",")?)?;
+        let rest = after_line(end)?;
+        Some(((front, stamp), rest))
     }
 }
 
@@ -94,17 +88,6 @@ fn leading_expected(text: &[u8]) -> Option<(Option<u64>, &[u8])>
     };
     let (value, rest) = leading_number(field)?;
     Some((Some(value), rest))
-}
-
-/// Parses a front and a stamp at the beginning of a text, and returns them and the text after their
-/// line.
-fn leading_stamp(text: &[u8]) -> Option<((u64, u64), &[u8])>
-    ensures { IfSome result (λ found. FirstLineGives stamp_of text.now found.0 found.1.now) }
-{
-    let (front, end) = leading_number(text)?;
-    let (stamp, end) = leading_number(skip(end, b",")?)?;
-    let rest = after_line(end)?;
-    Some(((front, stamp), rest))
 }
 
 /// Returns the field at the beginning of a text, and the text after it. The field is usually short.

@@ -1,6 +1,6 @@
 use Rattle.std.proofs.Common.{◌∙◌, ◌++◌, ℕ, List, ap, codes}
 use Rattle.tk_script.proofs.FrequentLemmas.{first-stamp}
-use Rattle.tk_script.proofs.frequent.leading_stamp.Goals as goal
+use Rattle.tk_script.proofs.frequent.Tuple2U64U64Frequent.leading.Goals as goal
 
 pub returns : goal.returns
 returns c =
