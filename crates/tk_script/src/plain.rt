@@ -88,22 +88,10 @@ impl<'a> Lines<'a> {
     pub(crate) fn get(&self, i: usize) -> Option<&'a [u8]>
         ensures { option_map (λ s. s.now) result ≡ field_at (cut_at_commas self.now.line.now) i }
     {
-        if i < MOST_FIELDS {
-            self.first_field(i)
-        } else {
-            field_in_line(self.line, i)
-        }
-    }
-
-    /// Returns the field at an index that is below `MOST_FIELDS`.
-    fn first_field(&self, i: usize) -> Option<&'a [u8]>
-        requires { i < 16 }
-        ensures { option_map (λ s. s.now) result ≡ field_at (cut_at_commas self.now.line.now) i }
-    {
-        if i < self.fields.count {
+        if i < self.fields.count.min(MOST_FIELDS) {
             Some(self.fields.first[i])
         } else {
-            None
+            field_in_line(self.line, i)
         }
     }
 
