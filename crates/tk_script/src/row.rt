@@ -138,20 +138,11 @@ fn read_change(row: u64, fields: &Records<'_>) -> Result<Row, ScriptError>
     let mult = number32_at(row, fields, 3)?;
     let shift = number32_at(row, fields, 4)?;
     let first = number_at(row, fields, 5)?;
-    let desc = counter_of(row, bits, mult, shift)?;
+    let made = CounterDesc::new(bits, mult, shift);
+    let desc = made.map_err(|error| ScriptError::Counter { row, error })?;
     Ok(Row::Change {
         reading,
         desc,
         first,
     })
-}
-
-/// Makes the counter with these numbers, or returns their fault as the record's.
-fn counter_of(row: u64, bits: u32, mult: u32, shift: u32) -> Result<CounterDesc, ScriptError>
-    ensures { result ≡ spec.counter_of row (record { bits = bits; mult = mult; shift = shift }) }
-{
-    match CounterDesc::new(bits, mult, shift) {
-        Ok(desc) => Ok(desc),
-        Err(error) => Err(ScriptError::Counter { row, error }),
-    }
 }
