@@ -72,7 +72,7 @@ clocks_of fields = do
   clocks_from counter words frequency tick
 
 -- the beginning with running clocks that no discipline steers
-unfoldable pub unsteered_of : List (List ℕ) → Result Start ScriptError
+abbrev pub unsteered_of : List (List ℕ) → Result Start ScriptError
 unsteered_of fields = clocks_of fields >>= λ clocks. Ok (Running clocks.0 clocks.1)
 
 -- the beginning with steered clocks, if their numbers gave them

@@ -11,7 +11,7 @@ use crate::records::Records;
 use crate::script_error::ScriptError;
 use tk_clock::{Clock, SNAPSHOT_WORDS, Snapshot};
 use tk_counter::CounterDesc;
-use tk_ntp::{SteeredClock, SteeredNumbers};
+use tk_ntp::SteeredClock;
 
 /// The number of fields of the record without a discipline.
 const UNSTEERED_FIELDS: usize = 16;
@@ -30,22 +30,12 @@ pub(crate) fn read_running(fields: &Records<'_>) -> Result<Start, ScriptError>
     ensures opens { IfOk result IsOpenable }
 {
     if fields.len() == UNSTEERED_FIELDS {
-        read_unsteered(fields)
+        read_clocks(fields).map(|(clock, front)| Start::Running { clock, front })
     } else if fields.len() == STEERED_FIELDS {
         read_steered(fields)
     } else {
         Err(ScriptError::Fields { row: 1 })
     }
-}
-
-/// Parses running clocks that no discipline steers.
-#[tactic(auto, unfolding(crate::specs::RunningClocks::unsteered_of))]
-fn read_unsteered(fields: &Records<'_>) -> Result<Start, ScriptError>
-    ensures value { result ≡ spec.unsteered_of (fields_of fields.now) }
-    ensures opens { IfOk result IsOpenable }
-{
-    let (clock, front) = read_clocks(fields)?;
-    Ok(Start::Running { clock, front })
 }
 
 /// Parses running clocks and the numbers of their discipline. A field that isn't a number is the
@@ -57,20 +47,8 @@ fn read_steered(fields: &Records<'_>) -> Result<Start, ScriptError>
 {
     let numbers = read_numbers(fields)?;
     let (clock, front) = read_clocks(fields)?;
-    continued(clock, front, numbers)
-}
-
-/// Continues these clocks with a discipline, if the numbers are those of one.
-fn continued(clock: Clock, front: u64, numbers: SteeredNumbers) -> Result<Start, ScriptError>
-    requires { front ≤ most_front }
-    ensures value { result ≡ spec.continued clock front numbers }
-    ensures opens { IfOk result IsOpenable }
-{
     match SteeredClock::from_numbers(clock, numbers) {
-        Ok(steered) => Ok(Start::Continued {
-            clock: steered,
-            front,
-        }),
+        Ok(clock) => Ok(Start::Continued { clock, front }),
         Err(_) => Err(ScriptError::Opening { row: 1 }),
     }
 }
