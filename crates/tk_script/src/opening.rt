@@ -91,8 +91,14 @@ fn read_opening(telling: Telling, fields: &Records<'_>) -> Result<Start, ScriptE
         real,
     };
     match hz {
-        None => started(opening),
-        Some(hz) => started_steered(opening, hz),
+        None => match Clock::open(desc, reading, real) {
+            Ok(_) => Ok(Start::Opened(opening)),
+            Err(_) => Err(ScriptError::Opening { row: 1 }),
+        },
+        Some(hz) => match SteeredClock::open(desc, reading, real, hz) {
+            Ok(_) => Ok(Start::Steered { opening, hz }),
+            Err(_) => Err(ScriptError::Opening { row: 1 }),
+        },
     }
 }
 
@@ -121,26 +127,4 @@ pub(crate) fn counter_of(
         Telling::Frequency => CounterDesc::from_hz(bits, first, second),
     }
     .map_err(|_| ScriptError::Opening { row: 1 })
-}
-
-/// Begins with the opening, if clocks can be opened with it.
-fn started(opening: Opening) -> Result<Start, ScriptError>
-    ensures value { result ≡ spec.started opening }
-    ensures opens { IfOk result IsOpenable }
-{
-    if Clock::open(opening.desc, opening.reading, opening.real).is_err() {
-        return Err(ScriptError::Opening { row: 1 });
-    }
-    Ok(Start::Opened(opening))
-}
-
-/// Begins with the opening and `hz`, if steered clocks can be opened with them.
-fn started_steered(opening: Opening, hz: u32) -> Result<Start, ScriptError>
-    ensures value { result ≡ spec.started_steered opening hz }
-    ensures opens { IfOk result IsOpenable }
-{
-    if SteeredClock::open(opening.desc, opening.reading, opening.real, hz).is_err() {
-        return Err(ScriptError::Opening { row: 1 });
-    }
-    Ok(Start::Steered { opening, hz })
 }
