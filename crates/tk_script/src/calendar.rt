@@ -1,4 +1,4 @@
-ghost use Rattle.std.specs.Prelude.{◌≡◌, ◌<◌, ◌≤◌, ◌++◌, ◌/◌, ◌%◌, IfOk, IfErr, IfSome, OnOk, pos, unsigned_abs, string_bytes};
+ghost use Rattle.std.specs.Prelude.{◌≡◌, ◌<◌, ◌≤◌, ◌/◌, ◌%◌, IfOk, IfErr, IfSome, pos, unsigned_abs, string_bytes};
 ghost use Rattle.jiff.specs.Words.{date_text, epoch_day};
 ghost use Rattle.tk_script.specs.Utc.{IsDateText, IsUtcText, time_part};
 ghost use Rattle.tk_script.specs.Lines.{IsWritable};
@@ -69,9 +69,12 @@ pub fn utc<A: Allocator + Copy>(alloc: A, sec: i64, nsec: u32) -> Result<String<
     ensures ok { IfOk result (λ s. IsUtcText (unsigned_abs sec) nsec (string_bytes s)) }
     ensures memory { IfErr result (λ e. e ≡ ScriptError.Memory) }
 {
-    let seconds = sec.unsigned_abs();
-    let (day, second) = day_and_second(seconds);
-    utc_of(alloc, date_of_day(day), second, nsec)
+    let (day, second) = day_and_second(sec.unsigned_abs());
+    let time = time_of_day(second, nsec);
+    let mut text = date_string(alloc, date_of_day(day))?;
+    text.push_str(str::from_utf8(&time).unwrap())
+        .map_err(|_| ScriptError::Memory)?;
+    Ok(text)
 }
 
 /// Returns the day of a count of seconds after 1970-01-01, and the second in that day.
@@ -92,24 +95,6 @@ fn date_of_day(day: u32) -> Date
     ensures { epoch_day result ≡ pos day }
 {
     Date::from_plain(jiff_core::civil::Date::from_unix_epoch_day(i64::from(day)).unwrap())
-}
-
-/// Returns the text of a date, and of a second and nanoseconds in it.
-fn utc_of<A: Allocator + Copy>(
-    alloc: A,
-    date: Date,
-    second: u32,
-    nsec: u32,
-) -> Result<String<A>, ScriptError>
-    requires second { second < 86400 }
-    requires nanoseconds { nsec < 1000000000 }
-    ensures ok { IfOk result (λ s. string_bytes s ≡ date_text date ++ time_part second nsec) }
-    ensures memory { IfErr result (λ e. e ≡ ScriptError.Memory) }
-{
-    let time = time_of_day(second, nsec);
-    let mut text = date_string(alloc, date)?;
-    push(&mut text, str::from_utf8(&time).unwrap())?;
-    Ok(text)
 }
 
 /// Returns `Thh:mm:ss.nnnnnnnnnZ`.
@@ -134,12 +119,4 @@ fn date_string<A: Allocator + Copy>(alloc: A, date: Date) -> Result<String<A>, S
     ensures memory { IfErr result (λ e. e ≡ ScriptError.Memory) }
 {
     date.to_string(alloc).map_err(|_| ScriptError::Memory)
-}
-
-/// Appends a text.
-fn push<A: Allocator>(text: &mut String<A>, more: &str) -> Result<(), ScriptError>
-    ensures ok { OnOk result (string_bytes text.new ≡ string_bytes text.old ++ more.now) }
-    ensures memory { IfErr result (λ e. e ≡ ScriptError.Memory) }
-{
-    text.push_str(more).map_err(|_| ScriptError::Memory)
 }
