@@ -1,4 +1,4 @@
-ghost use Rattle.std.specs.Prelude.{◌≡◌, ℕ, ◌++◌, ◌≤◌, List, OnOk, OnErr, IfErr, codes, length};
+ghost use Rattle.std.specs.Prelude.{◌≡◌, ℕ, ◌++◌, List, OnOk, OnErr, IfErr};
 ghost use Rattle.tk_script.specs.Line.{HasRoom};
 ghost use Rattle.tk_script.specs.Lines.{IsWritable, IsAtLine, at_text};
 
@@ -54,61 +54,16 @@ impl<A: Allocator + Copy> Calendar<A> {
         ensures err { OnErr result (out.new.items ≡ out.old.items) }
         ensures memory { IfErr result (λ e. e ≡ ScriptError.Memory) }
     {
-        match clock {
-            ClockId::Realtime | ClockId::RealtimeCoarse => {
-                let seconds = time.sec.unsigned_abs();
-                let (day, second) = day_and_second(seconds);
-                let date = self.date_of(day)?;
-                let time_of_day = time_of_day(second, time.nsec);
-                line_at_with(out, clock, time, date.as_bytes(), &time_of_day)
-            }
-            ClockId::Monotonic
-            | ClockId::Boottime
-            | ClockId::Tai
-            | ClockId::MonotonicCoarse
-            | ClockId::MonotonicRaw => line_at_plain(out, clock, time),
+        let mut line = Line::end();
+        if let ClockId::Realtime | ClockId::RealtimeCoarse = clock {
+            let (day, second) = day_and_second(time.sec.unsigned_abs());
+            line.put(&time_of_day(second, time.nsec));
+            line.put(self.date_of(day)?.as_bytes());
+            line.put(b",");
         }
+        put_at(&mut line, clock, time);
+        line.add_to(out)
     }
-}
-
-/// Appends the line of a clock's time without UTC text.
-#[inline(always)]
-fn line_at_plain<A: Allocator>(
-    out: &mut Vec<u8, A>,
-    clock: ClockId,
-    time: Timespec,
-) -> Result<(), ScriptError>
-    requires { IsWritable time }
-    ensures ok { OnOk result (out.new.items ≡ out.old.items ++ (at_text clock time ++ codes "\n")) }
-    ensures err { OnErr result (out.new.items ≡ out.old.items) }
-    ensures memory { IfErr result (λ e. e ≡ ScriptError.Memory) }
-{
-    let mut line = Line::end();
-    put_at(&mut line, clock, time);
-    line.add_to(out)
-}
-
-/// Appends the line of a clock's time, ending with this date and time of day.
-fn line_at_with<A: Allocator>(
-    out: &mut Vec<u8, A>,
-    clock: ClockId,
-    time: Timespec,
-    date: &[u8],
-    time_of_day: &[u8; 20],
-) -> Result<(), ScriptError>
-    requires writable { IsWritable time }
-    requires short { length date.now ≤ 13 }
-    ensures ok { OnOk result (out.new.items
-        ≡ out.old.items ++ (at_text clock time ++ codes "," ++ (date.now ++ time_of_day.now) ++ codes "\n")) }
-    ensures err { OnErr result (out.new.items ≡ out.old.items) }
-    ensures memory { IfErr result (λ e. e ≡ ScriptError.Memory) }
-{
-    let mut line = Line::end();
-    line.put(time_of_day);
-    line.put(date);
-    line.put(b",");
-    put_at(&mut line, clock, time);
-    line.add_to(out)
 }
 
 /// Prepends a clock and its time to a line.

@@ -1,4 +1,4 @@
-use Rattle.std.proofs.Common.{◌≡◌, ◌∙◌, ◌++◌, ℕ, List, refl, ap, pos, unsigned_abs, ◌/◌, ◌%◌, rules, length, arith, inl, inr, codes}
+use Rattle.std.proofs.Common.{◌≡◌, ◌∙◌, ◌++◌, ℕ, List, refl, ap, sym, pos, unsigned_abs, ◌/◌, ◌%◌, rules, inl, inr, codes, append_assoc}
 use Rattle.std.specs.Prelude.{◌⊎◌}
 use Rattle.std.proofs.lemmas.Result.{on_ok_weaker}
 use Rattle.tk_clock.specs.declared.clock_id.ClockId.{ClockId}
@@ -6,8 +6,8 @@ use Rattle.tk_clock.specs.declared.clock_id.ClockId.TheVariants.{Realtime, Realt
 use Rattle.tk_clock.specs.declared.timespec.Timespec.{Timespec}
 use Rattle.tk_script.specs.Lines.{IsAtLine, at_text}
 use Rattle.tk_script.specs.Utc.{IsDateText, IsUtcText, time_part}
-use Rattle.tk_script.proofs.TextLemmas.{length-date_text}
 use Rattle.tk_script.proofs.calendar.Calendar.line_at.Goals as goal
+use Rattle.tk_script.proofs.calendar.Calendar.line_at.Goals.{in-Realtime+in_ok-date_of, in_default}
 
 -- the text of a date and the text of a time of day make the UTC text
 joined : (sec nsec seconds day second : ℕ) (date bytes time : List ℕ) → IsDateText day date →
@@ -18,33 +18,56 @@ joined : (sec nsec seconds day second : ℕ) (date bytes time : List ℕ) → Is
 joined sec nsec seconds day second date bytes time dated same part n e f =
     (dated.0, dated.1 ∙ ap pos (rw n at e), rw (same, dated.2, part, f, n) refl)
 
+-- a line with UTC text, by the order in which its parts were prepended
+grouped : (clock bytes time line : List ℕ)
+    → line ≡ clock ++ (codes "," ++ (bytes ++ (time ++ codes "\n")))
+    → line ≡ clock ++ codes "," ++ (bytes ++ time) ++ codes "\n"
+grouped clock bytes time line e =
+    e ∙ ap (λ (l : List ℕ). clock ++ (codes "," ++ l)) (sym (append_assoc bytes time (codes "\n")))
+    ∙ sym (append_assoc clock (codes ",") ((bytes ++ time) ++ codes "\n"))
+    ∙ sym (append_assoc (clock ++ codes ",") (bytes ++ time) (codes "\n"))
+
 -- the clocks that count from 1970 have a line with UTC text
-with_utc : (clock : ClockId) (time : Timespec) (old new utc : List ℕ)
+with_utc : (clock : ClockId) (time : Timespec) (old new line utc : List ℕ)
     → (clock ≡ Realtime) ⊎ (clock ≡ RealtimeCoarse)
     → IsUtcText (unsigned_abs time.sec) time.nsec utc
-    → new ≡ old ++ (at_text clock time ++ codes "," ++ utc ++ codes "\n")
+    → line ≡ at_text clock time ++ codes "," ++ utc ++ codes "\n"
+    → new ≡ old ++ line
     → (text : List ℕ) × (new ≡ old ++ text) × IsAtLine clock time text
-with_utc clock time old new utc (inl e) dated written =
-    rw e (_, rw e at written, (utc, dated, refl))
-with_utc clock time old new utc (inr e) dated written =
-    rw e (_, rw e at written, (utc, dated, refl))
+with_utc clock time old new line utc (inl e) dated whole written =
+    let known = written ∙ ap (λ (l : List ℕ). old ++ l) whole in
+    rw e (_, rw e at known, (utc, dated, refl))
+with_utc clock time old new line utc (inr e) dated whole written =
+    let known = written ∙ ap (λ (l : List ℕ). old ++ l) whole in
+    rw e (_, rw e at known, (utc, dated, refl))
 
-pub returns-in_ok-date-in-Realtime-clause-ok : goal.returns-in_ok-date-in-Realtime-clause-ok
-returns-in_ok-date-in-Realtime-clause-ok g c =
-    let n : c.unsigned_abs-seconds.result ≡ unsigned_abs c.args.time.sec = search rules in
-    let text = joined (unsigned_abs c.args.time.sec) c.args.time.nsec c.unsigned_abs-seconds.result
-    c.day_and_second-day.result.0 c.day_and_second-day.result.1
-    c.in_ok-date-in-Realtime.date.now c.as_bytes.result.now c.time_of_day-time_of_day.result
-    c.in_ok-date-in-Realtime.ensures.ok c.as_bytes.ensures.value
-    c.time_of_day-time_of_day.ensures n c.day_and_second-day.ensures.day
-    c.day_and_second-day.ensures.second in
-    on_ok_weaker c.line_at_with.result
-    (with_utc c.args.clock c.args.time c.args.out.now.items c.line_at_with.new.out.items
-    (c.as_bytes.result.now ++ c.time_of_day-time_of_day.result) c.in-Realtime.is text)
-    c.line_at_with.ensures.ok
-
-pub line_at_with-requires-clause-short : goal.line_at_with-requires-clause-short
-line_at_with-requires-clause-short g c =
-    let dated = c.in_ok-date-in-Realtime.ensures.ok in
-    let short = length-date_text dated.0 dated.0.year refl in
-    omega (arith, short, ap length dated.2, ap length c.as_bytes.ensures.value)
+pub returns-clause-ok : goal.returns-clause-ok
+returns-clause-ok g c =
+    let at = at_text c.args.clock c.args.time in
+    elim c.match-clock.branch [
+      | in-Realtime+in_ok-date_of w ↦
+          let n : w.unsigned_abs.result ≡ unsigned_abs c.args.time.sec = search rules in
+          let bytes = w.as_bytes.result.now in
+          let time = w.time_of_day.result in
+          let text = joined (unsigned_abs c.args.time.sec) c.args.time.nsec w.unsigned_abs.result
+          w.day_and_second-day.result.0 w.day_and_second-day.result.1
+          w.in_ok-date_of.field-0.now bytes time w.in_ok-date_of.ensures.ok
+          w.as_bytes.ensures.value w.time_of_day.ensures n w.day_and_second-day.ensures.day
+          w.day_and_second-day.ensures.second in
+          let line : c.put_at.new.line
+          ≡ at ++ (codes "," ++ (bytes ++ (time ++ codes "\n"))) =
+          c.put_at.ensures ∙ ap (λ (l : List ℕ). at ++ l)
+          (w.line-is ∙ w.put-in-Realtime-2.ensures.text
+          ∙ ap (λ (l : List ℕ). codes "," ++ l) (w.put-in-Realtime.ensures.text
+          ∙ ap (λ (l : List ℕ). bytes ++ l) (w.put.ensures.text
+          ∙ ap (λ (l : List ℕ). time ++ l) c.end-line.ensures))) in
+          on_ok_weaker c.add_to.result
+          (with_utc c.args.clock c.args.time c.args.out.now.items c.add_to.new.out.items
+          c.put_at.new.line (bytes ++ time) w.in-Realtime.is text
+          (grouped at bytes time c.put_at.new.line line))
+          c.add_to.ensures.ok
+      | in_default w ↦
+          let whole : c.put_at.new.line ≡ at ++ codes "\n" =
+          c.put_at.ensures ∙ ap (λ (l : List ℕ). at ++ l) (w.line-is ∙ c.end-line.ensures) in
+          search rules
+    ]
