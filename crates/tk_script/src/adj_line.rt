@@ -1,9 +1,8 @@
 //! Makes the line of the reply to a request.
-ghost use Rattle.std.specs.Prelude.{◌≡◌, ◌++◌, ◌<◌, List, ℕ, OnOk, OnErr, IfErr, codes, decimal, drop, flat_map, length, pos, unsigned_abs};
+ghost use Rattle.std.specs.Prelude.{◌≡◌, ◌++◌, ◌<◌, OnOk, OnErr, IfErr, codes, flat_map, pos, unsigned_abs};
 ghost use Rattle.std.specs.Fmt.{signed_decimal};
 ghost use Rattle.tk_ntp.specs.Bits.{has, sta_nano};
-ghost use Rattle.tk_script.specs.AdjLine.{IsAdjWritable, adj_line, number_field, reply_time, sub_digits};
-ghost use Rattle.tk_script.specs.Word.{state_name};
+ghost use Rattle.tk_script.specs.AdjLine.{IsAdjWritable, adj_line, number_field, sub_digits};
 
 use crate::digits::nine_digits_of;
 use crate::names::word_of_state;
