@@ -12,14 +12,14 @@ ghost use Rattle.tk_script.specs.Grammar.{Fails, parse_of};
 ghost use Rattle.tk_script.specs.Start.{IsOpenable};
 ghost use Rattle.tk_report.specs.CountedClocks.{ForKept, IsKept, IsReplied};
 ghost use Rattle.tk_report.specs.Folding.{rule_of};
-ghost use Rattle.tk_report.specs.Report.{IsLine, IsLookLine, IsPlainReportOfRows, after, difference, differences_of, differs_text, missed, missed_at, missed_if, reply_line};
+ghost use Rattle.tk_report.specs.Report.{IsLine, IsLookLine, IsPlainReportOfRows, after, difference, differences_of, differs_text, event, missed, missed_at, missed_if, reply_by, reply_line};
 ghost use Rattle.tk_report.specs.Reports.{IsReport, IsReportBy, IsReportUnlimited};
 
 use crate::checked_report::CheckedReport;
 use crate::counted_clocks::CountedClocks;
 use crate::row_reporting::report_rows;
 use std::alloc::{Allocator, Global};
-use tk_clock::{ClockId, Refusal, Snapshot, Timespec};
+use tk_clock::{ClockId, Command, Refusal, Snapshot, Timespec};
 use tk_counter::NANOS_PER_SECOND;
 use tk_script::{
     Calendar, Row, RowReader, ScriptError, Start, line_differs, line_no, line_ok, line_open,
@@ -127,8 +127,7 @@ fn add_line<A: Allocator + Copy>(
 {
     match row {
         Row::Act { reading, cmd } => {
-            let answer = clocks.apply(reading, cmd);
-            add_answer(text, clocks, answer)?;
+            add_reply(text, clocks, reading, cmd)?;
             Ok(None)
         }
         Row::Look {
@@ -174,8 +173,30 @@ pub(crate) fn add_difference<A: Allocator>(
     }
 }
 
+/// Applies a command and appends the line of its answer. It is a separate function, so that the
+/// loop over the rows has few values to keep.
+#[inline(never)]
+fn add_reply<A: Allocator>(
+    text: &mut Vec<u8, A>,
+    clocks: &mut CountedClocks,
+    reading: u64,
+    cmd: Command,
+) -> Result<(), ScriptError>
+    requires { clocks.old.count < counted_most }
+    ensures line { ForKept clocks.old (λ keep journal. OnOk result (text.new.items
+        ≡ text.old.items ++ reply_line reading
+        (reply_by (rule_of keep) journal (event reading cmd)))) }
+    ensures kept { ForKept clocks.old (λ keep journal. IsKept keep clocks.new
+        (reply_by (rule_of keep) journal (event reading cmd)).journal) }
+    ensures err { IfErr result (λ error. error ≡ ScriptError.Memory) }
+{
+    let answer = clocks.apply(reading, cmd);
+    add_answer(text, clocks, answer)
+}
+
 /// Appends the line of an answer. The line of an accepted command or change gives MONOTONIC at the
 /// reading to which it brought the clocks forward.
+#[inline(always)]
 fn add_answer<A: Allocator>(
     text: &mut Vec<u8, A>,
     clocks: &CountedClocks,

@@ -6,18 +6,14 @@ use Rattle.tk_report.specs.Report.{change_reply, event, reply_by, reply_line}
 use Rattle.tk_report.proofs.CountedClocks.{snapshot-kept}
 use Rattle.tk_report.proofs.reporting.add_line.Goals as goal
 
-pub returns-in_ok-add_answer-in-Act-clause-ok : goal.returns-in_ok-add_answer-in-Act-clause-ok
-returns-in_ok-add_answer-in-Act-clause-ok g c = λ keep journal kept.
+pub returns-in_ok-add_reply-in-Act-clause-ok : goal.returns-in_ok-add_reply-in-Act-clause-ok
+returns-in_ok-add_reply-in-Act-clause-ok g c = λ keep journal kept.
     let reading = c.in-Act.reading in
     let reply = reply_by (rule_of keep) journal (event reading c.in-Act.cmd) in
-    let replied = c.apply-answer.ensures keep journal kept in
+    let replied = c.in_ok-add_reply-in-Act.ensures in
     rw c.in-Act.is (
-      (
-        reply_line reading reply,
-        refl,
-        c.in_ok-add_answer-in-Act.ensures.line keep reading reply replied,
-      ),
-      replied.kept,
+      (reply_line reading reply, refl, replied.line keep journal kept),
+      replied.kept keep journal kept,
       refl,
     )
 
