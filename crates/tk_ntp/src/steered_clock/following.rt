@@ -75,7 +75,8 @@ impl SteeredClock {
     pub fn follow_leap(&mut self, reading: u64, leap: Leap) -> Result<(), Refusal>
         requires some { 0 < self.old.next }
         requires early { self.old.next ≤ clock_end }
-        ensures answer { HasFollowed (state_refusal self.old.clock reading (leap_of_clock leap self.old.clock))
+        ensures answer { HasFollowed
+            (state_refusal self.old.clock reading (leap_of_clock leap self.old.clock))
             (leap_followed reading leap self.old) self.old result self.new }
         // the account adds up to what the clocks were asked for
         ensures sum { IsNoEarlier reading self.old →
