@@ -1,13 +1,11 @@
 -- Steered clocks are loaded from the words of their clocks and of their numbers.
-use Rattle.std.proofs.Common.{rules, arith, ◌≡◌, ◌⊎◌, ℕ, ℤ, ◌+◌, ◌<◌, ◌≤◌, ◌^◌, ◌∙◌, sym, ap, refl, Some, None, Ok, List, ◌++◌, length, take, drop, inl, inr, append-nil, w64, FitsSigned}
-use Rattle.std.proofs.lemmas.Int.{to_z-of_z}
+use Rattle.std.proofs.Common.{rules, arith, ◌≡◌, ◌⊎◌, ℕ, ◌+◌, ◌≤◌, refl, Some, None, Ok, List, ◌++◌, length, take, drop, inl, inr, append-nil}
 use Rattle.std.proofs.lemmas.List.{take_at, drop_at, drop-drop, drop_all}
 use Rattle.std.specs.Prelude.{MatchOption, Option}
 use Rattle.tk_counter.specs.Counter.{Counter, IsCounter}
 use Rattle.tk_clock.specs.Running.{IsRunning}
 use Rattle.tk_clock.specs.Snapshot.{Snapshot}
 use Rattle.tk_clock.specs.Words.{words_of, restored}
-use Rattle.tk_ntp.specs.declared.numbers.SteeredNumbers.{SteeredNumbers}
 use Rattle.tk_ntp.specs.Numbers.{steered_numbers}
 use Rattle.tk_ntp.specs.Restored.{steered_from}
 use Rattle.tk_c.specs.declared.code.Code.TheVariants.{Done, BadWords}
@@ -19,7 +17,7 @@ use Rattle.tk_c.specs.Counted.{counted_snapshot}
 use Rattle.tk_c.specs.NtpStorage.{ntp_storage}
 use Rattle.tk_c.specs.Restored.{clock_with, IsClockOf}
 use Rattle.tk_c.specs.Saved.{saved, counter_of_words, saved_frequency, saved_tick}
-use Rattle.tk_c.specs.SavedNtp.{number_words, numbers_of_words, counted_clock, saved_ntp, counted_with, steered_with, IsNtpTaken, IsNtpNotTaken, IsNtpRestored, IsNtpLoaded, LoadsAsNtp}
+use Rattle.tk_c.specs.SavedNtp.{number_words, numbers_of_words, counted_clock, saved_ntp, counted_with, steered_with, IsNtpTaken, IsNtpNotTaken, IsNtpRestored, LoadsAsNtp}
 use Rattle.tk_c.proofs.Loading.{same_counter, same_frequency, same_tick}
 
 -- the words of clocks and of numbers in the place of 33 others

@@ -1,6 +1,6 @@
 -- The words of a page give back the words that were packed.
 use Rattle.std.proofs.Common.{◌≡◌, ℕ, ◌+◌, ◌*◌, ◌/◌, ◌%◌, ◌^◌, ◌<◌, List, [], ◌∷◌, arith}
-use Rattle.std.proofs.Common.{◌≤◌, sym, refl, subst}
+use Rattle.std.proofs.Common.{sym, refl, subst}
 use Rattle.std.specs.Prelude.{slice_index, IsSome, Some}
 use Rattle.tk_clock.specs.Snapshot.{Snapshot}
 use Rattle.tk_clock.specs.Words.{words_of, restored}

@@ -4,7 +4,6 @@ use Rattle.std.specs.Prelude.{◌==◌, slice_index, get_or}
 use Rattle.std.specs.Borrow.{Bor}
 use Rattle.std.proofs.lemmas.Bool.{cases_Bool, eqb-true}
 use Rattle.std.proofs.lemmas.List.{drop_all, length-append}
-use Rattle.csv.specs.Records.{field_at}
 use Rattle.tk_script.specs.Plain.{HasFields, cut_after, cut_at_commas}
 use Rattle.tk_script.specs.declared.plain.Fields.{Fields}
 use Rattle.tk_script.proofs.PlainLemmas.{byte-first, field_at-more, not-true}
