@@ -70,7 +70,7 @@ impl<'a> RowReader<'a> {
     }
 
     /// Parses the next record of any form, as `next_row` does. The compiler clears the stack of an
-    /// inlined function where that begins: in a function of its own, this costs a frequent row
+    /// inlined function where that begins, so in a separate function this costs a frequent row
     /// nothing.
     #[inline(always)]
     fn parse_row(&mut self) -> Result<Option<Row>, ScriptError>
