@@ -3,9 +3,11 @@
 use std::hint::spin_loop;
 use std::sync::{Mutex, MutexGuard, Wait};
 
-/// The number of pauses of a thread that finds the lock held, before it sleeps until it gets the
-/// lock.
-const PAUSES: u32 = 768;
+/// The number of tries before a thread sleeps until it gets the lock.
+const TRIES: u32 = 2;
+
+/// The number of pauses after each of these tries.
+const PAUSES: u32 = 1_280;
 
 /// Takes a lock that is held for a shorter time than it takes to sleep and to be woken.
 ///
@@ -13,11 +15,13 @@ const PAUSES: u32 = 768;
 /// may give more commands with all words of the keeper in its processor's cache, where a try would
 /// take them from.
 pub(crate) fn take<'a, T, R: Wait>(rt: &R, lock: &'a Mutex<T>) -> MutexGuard<'a, T> {
-    if let Some(guard) = lock.try_lock() {
-        return guard;
-    }
-    for _ in 0..PAUSES {
-        spin_loop();
+    for _ in 0..TRIES {
+        if let Some(guard) = lock.try_lock() {
+            return guard;
+        }
+        for _ in 0..PAUSES {
+            spin_loop();
+        }
     }
     lock.lock(rt)
 }
