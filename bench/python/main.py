@@ -7,9 +7,9 @@
     main.py time package|library JOB..
 
 `names` prints the jobs; those of numpy are there if it is installed. `check` makes the conversions
-of short lists in both ways, and ends with status 1 if the times differ. `time` prints a line for each job:
-its name, the least processor time, its unit, and a digest of the times. The package is that of
-PYTHONPATH.
+of short lists in both ways, and ends with status 1 if the times differ. `time` prints a line for
+each job: its name, the least processor time, its unit, and a digest of the times. The package is
+that of PYTHONPATH.
 """
 import hashlib
 import sys
