@@ -3,3 +3,4 @@ pub mod Packed
 pub mod Shown
 pub mod Views
 pub mod Steps
+pub mod Kept

@@ -17,6 +17,7 @@ mod cell;
 mod packing;
 mod page;
 mod page_error;
+mod plays;
 mod publisher;
 mod rule;
 mod view;

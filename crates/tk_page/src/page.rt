@@ -3,12 +3,12 @@
 //! A read returns the words of one publication, never a mixture of two. No later publication has
 //! been made when the read takes effect. src/packing.rt says what the words are.
 //!
-//! A version word says who may use the words, as in crossbeam's `seq_lock.rs` and the kernel's
-//! `seqcount_t` (Documentation/locking/seqlock.rst):
+//! A version word says who may use the words, as in the kernel's `seqcount_t`
+//! (Documentation/locking/seqlock.rst) and crossbeam's `seq_lock.rs`:
 //!
 //! - Even: no thread holds the words. They are those of the latest publication.
-//! - Odd: one thread holds the words. It is the publisher, which writes them, or a thread whose
-//!   first try to read them failed, which only reads them.
+//! - Odd: one thread holds the words. It is the publisher, which writes them, or a reader whose
+//!   tries to read them all failed, which only reads them.
 //!
 //! Time goes down in this timeline. The two sides of one line may happen in either order. Each
 //! number is a step, which the code cites. The mark `<-` is on the store or load at which the step
@@ -18,32 +18,23 @@
 //!      publisher                    version      viewer
 //!   1. makes the page, version 0       0
 //!      exchanges 0 for 1               1
-//!      loads the words                 1
 //!      stores the same words           1
 //!      stores version 2 <-             2
 //!                                      2      3. loads version 2: even
 //!                                      2         loads the words
 //!                                      2         loads version 2 again: the same <-
 //!                                      2      3. loads version 2: even
-//!   2. exchanges 2 for 3               3         loads some of the words
-//!      loads the old words             3         loads the other words
-//!      stores the new words            3
-//!      stores version 4 <-             4
-//!                                      4         loads version 4: changed
+//!   2. exchanges 2 for 3               3         loads the words
+//!      stores the new words            3         loads version 3: changed
+//!                                      3         loads version 3: odd
+//!      stores version 4 <-             4         and so on, until all tries have failed
 //!                                      5      4. exchanges 4 for 5
 //!   2. loads version 5: odd, waits     5         loads the words
 //!                                      4         stores version 4 <-
-//!      exchanges 4 for 5               5
-//!      loads the old words             5      3. loads version 5: odd
-//!      stores the new words            5      4. loads version 5: odd, waits
-//!      stores version 6 <-             6
-//!                                      7         exchanges 6 for 7
-//!                                      7         loads the words
-//!                                      6         stores version 6 <-
 //! ```
 //!
 //! Step 1 opens the page, step 2 is a publication, step 3 is a read, and step 4 is a read whose
-//! first try failed.
+//! tries failed.
 //!
 //! Steps 5 and 6 touch no word. They exist for proofs. The publisher and every viewer hold a pass
 //! to the cell of the words. A pass has no bytes. A viewer's pass records the journal that the
@@ -66,20 +57,20 @@
 //! Who waits for whom:
 //!
 //! - `publish` and `publish_for` wait for a viewer that holds the words in step 4.
-//! - `read` waits, after a failed first try, for the thread that holds the words.
-//! - `tell` waits, after a failed first try, for a viewer that holds the words.
+//! - `read` waits for the thread that holds the words: it tries again, and then takes its turn.
+//! - `tell` waits in the same way for a viewer that holds the words.
 //! - `open`, `front`, `split` and `join` never wait.
 //!
 //! Only `open` allocates. No call takes the lock of a keeper. After n publications the version is
 //! `2 * n + 2` while it is even. A thread can make it odd while it is below 2^64 - 2, so there can
-//! be 2^63 - 2 publications. Then `publish` waits for ever, as does a read whose first try failed.
+//! be 2^63 - 2 publications. Then `publish` waits for ever, as does a read whose tries failed.
 ghost use Rattle.std.specs.Prelude.{◌≡◌, IfOk, length};
 ghost use Rattle.crossbeam_utils.specs.Seq.{cell_view};
 ghost use Rattle.tk_page.specs.declared.view.View.TheVariants.{Comparing, Fresh, Publishing, Viewing};
 ghost use Rattle.tk_page.specs.History.{Begins, IsOpening, opened_by};
 ghost use Rattle.tk_page.specs.Views.{journal_of, reads_of};
 
-use crate::cell::{Cell, Pass, join, load, split, store};
+use crate::cell::{Cell, Pass, join, load, made, split, store};
 use crate::packing::pack;
 use crate::page_error::PageError;
 use crate::publisher::Publisher;
@@ -125,7 +116,7 @@ impl Page {
             opened.2 ≡ record { page = opened.0; reads = 0; journal = opened_by snapshot }) }
     {
         // Step 1.
-        let Ok((cell, mut pass)) = Cell::ruled(alloc, pack(&snapshot)) else {
+        let Ok((cell, mut pass)) = made(alloc, &pack(&snapshot)) else {
             return Err(PageError::Memory);
         };
         take_opening::<Brand, R>(rt, &cell, &mut pass, snapshot);
@@ -140,8 +131,7 @@ impl Page {
 
     /// Gives a viewer the publisher's journal, which the viewer's former journal begins.
     ///
-    /// It doesn't count as a read by the viewer. If its first try to read the words fails, it waits
-    /// for a viewer that holds them.
+    /// It doesn't count as a read by the viewer. It waits for a viewer that holds the words.
     pub fn tell<R: Wait>(&self, rt: &R, publisher: &mut Publisher, viewer: &mut Viewer)
         requires publisher { publisher.old.page ≡ self.now }
         requires viewer { viewer.old.page ≡ self.now }

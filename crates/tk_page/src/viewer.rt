@@ -45,8 +45,8 @@ impl Viewer {
     /// Returns the latest published snapshot. Its journal is no shorter than any that this viewer
     /// saw.
     ///
-    /// It reads the page once, as clause `reads` states. If its first try fails, it waits for the
-    /// thread that holds the words.
+    /// It reads the page once, as clause `reads` states. It waits for the thread that holds the
+    /// words.
     #[inline(always)]
     pub fn read<R: Wait>(&mut self, rt: &R, page: &Page) -> Snapshot
         requires page { self.old.page ≡ page.now }

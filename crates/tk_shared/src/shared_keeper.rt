@@ -133,8 +133,8 @@ impl<L: Named, C: Counter> SharedKeeper<L, C> {
     /// Returns the latest snapshot on the page, which is no older than any that this caller has
     /// seen.
     ///
-    /// It reads the page once, as `reads` of `HasRead` states, and doesn't take the lock. If its
-    /// first try fails, it waits for the thread that holds the words of the page.
+    /// It reads the page once, as `reads` of `HasRead` states, and doesn't take the lock. It waits
+    /// for the thread that holds the words of the page.
     #[inline(always)]
     pub fn read<R: Wait>(&self, rt: &R, caller: &mut Caller<L>) -> Snapshot
         ensures read { HasRead caller.old caller.new result }

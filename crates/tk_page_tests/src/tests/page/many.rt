@@ -1,9 +1,10 @@
-//! Tests one publisher and three viewers, in a thread each.
+//! Tests one publisher and its viewers, in a thread each.
 ghost use Rattle.std.specs.Prelude.{◌≡◌};
 
 use super::{OPENED_REAL, assert_same};
 use std::process::Abort;
 use std::sync::Wait;
+use std::sync::atomic::{AtomicBool, Ordering};
 use std::test::Fail;
 use std::thread::{self, Threads, join};
 use tk_clock::Command;
@@ -12,6 +13,9 @@ use tk_test_support::{PageDesk, opened_page};
 
 /// The number of publications.
 const ALL: u64 = 200_000;
+
+/// The number of reads beside a publisher that goes on.
+const READS: u64 = 100_000;
 
 /// The cycles from one publication to the next, at 1 ns each. The counter wraps on the way.
 const STEP: u64 = 100_000;
@@ -146,5 +150,48 @@ fn readers_see_whole_publications_while_they_are_made(rt: HostRuntime) -> Result
     );
     let joined = one.join(two, &page).join(three, &page);
     assert_same(&rt, &joined.front(), &ALL);
+    Ok(())
+}
+
+/// Publishes without a pause until `enough` is set.
+fn publish_on<R: Wait + Abort>(rt: &R, page: &Page, desk: PageDesk, enough: &AtomicBool)
+    requires { desk.page ≡ page.now }
+{
+    let mut desk = desk;
+    for number in 1..=u64::MAX {
+        let answer = desk.command(rt, page, reading_of(number), Command::Update);
+        assert_same(rt, &answer, &Ok(number));
+        if enough.load(Ordering::SeqCst) {
+            break;
+        }
+    }
+}
+
+/// Reads `READS` times, and then sets `enough`.
+fn read_enough<R: Wait + Abort>(rt: &R, page: &Page, viewer: Viewer, enough: &AtomicBool)
+    requires { viewer.page ≡ page.now }
+{
+    let mut viewer = viewer;
+    for _ in 0..READS {
+        let snapshot = viewer.read(rt, page);
+        assert_same(rt, &snapshot.words(), &words_of(snapshot.front()));
+    }
+    enough.store(true, Ordering::SeqCst);
+}
+
+#[test]
+fn reads_end_beside_a_publisher_that_goes_on(rt: HostRuntime) -> Result<(), Fail> {
+    let (page, desk, viewer) = opened_page(&rt, rt.alloc()).ok_or("no page")?;
+    let enough = AtomicBool::new(false);
+    let (host, shared, enough) = (&rt, &page, &enough);
+    join(
+        host,
+        move ||
+            requires { desk.page ≡ shared.now }
+        { publish_on(host, shared, desk, enough) },
+        move ||
+            requires { viewer.page ≡ shared.now }
+        { read_enough(host, shared, viewer, enough) },
+    );
     Ok(())
 }

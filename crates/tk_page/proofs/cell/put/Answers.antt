@@ -1,0 +1,39 @@
+use Rattle.std.proofs.Common.{rules, ◌≡◌, refl, ap, ◌∙◌, subst}
+use Rattle.crossbeam_utils.proofs.SeqKeeps.{puts, publishes}
+use Rattle.crossbeam_utils.specs.declared.atomic.seq_cell.Stage.TheVariants.{Writing}
+use Rattle.tk_page.specs.declared.view.View.{View}
+use Rattle.tk_page.proofs.Kept.{still_at}
+use Rattle.tk_page.proofs.cell.put.Goals as goal
+
+pub store-requires : goal.store-requires
+store-requires g c = let held = c.requires.held in (
+  search rules,
+  search rules,
+  puts _ _ _ _ _ _ _ _ _ _ _ (c.loop-i.invariant.1 held.0 held.1) (search rules) (search rules),
+)
+
+pub loop-i-preserved : goal.loop-i-preserved
+loop-i-preserved g c = (
+  search rules,
+  λ former e. c.store.ensures.2.1 _ _ _ _ (c.loop-i.invariant.1 former e),
+)
+
+pub store-requires-2 : goal.store-requires-2
+store-requires-2 g c =
+    let e : c.loop-i.i ≡ 8 = search rules in let same = c.loop-i.invariant.0 in
+    let held = c.requires.held in (
+      search rules,
+      search rules,
+      publishes _ _ _ g.M.Outcome.then _ _ _ c.args.version held.0 c.args.new _
+          (c.loop-i.invariant.1 held.0 held.1 ∙ ap (Writing c.args.version held.0 c.args.new) e)
+          refl (search rules)
+          (still_at g.M.Outcome.then _ _ _ _ same.1 same.2 _ _ held.2),
+    )
+
+pub returns-clause-rule : goal.returns-clause-rule
+returns-clause-rule g c = let held = c.requires.held in (
+  held.0,
+  subst (λ (v : View). g.M.Outcome.then v held.0 c.args.new c.store-2.new.seat.me.0.client)
+      c.loop-i.invariant.0.2
+      (c.store-2.ensures.2 _ _ _ _ (c.loop-i.invariant.1 held.0 held.1)),
+)
