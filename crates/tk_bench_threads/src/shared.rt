@@ -217,9 +217,6 @@ fn reads<L: Named, R: Wait>(
     }
 }
 
-/// Names the place where `read_once` reads the page.
-struct AtReadOnce;
-
 /// Reads once. Returns `None` if a publication was made during a fast read.
 #[inline(always)]
 fn read_once<L: Named, R: Wait>(
@@ -231,6 +228,6 @@ fn read_once<L: Named, R: Wait>(
     if is_fast {
         keeper.fast_read(caller).ok()
     } else {
-        Some(keeper.read_at::<AtReadOnce, R>(rt, caller))
+        Some(keeper.read(rt, caller))
     }
 }

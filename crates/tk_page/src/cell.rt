@@ -8,7 +8,7 @@ ghost use Rattle.tk_page.specs.Views.{Kept};
 ghost use Rattle.tk_page.specs.declared.view.View.TheVariants.{Fresh};
 
 use crate::packing::{PAGE_WORDS, Words};
-use crate::plays::{Checks, Cuts, Glues, Holds, LoadsWord, Looks, Publishes, Puts, Releases};
+use crate::plays::{Checks, Cuts, Glues, Holds, LoadsWord, Looks, Puts, Releases, Shows};
 use crate::rule::Law;
 use crate::view::View;
 use atomic_table::{Join, Split, Table};
@@ -169,9 +169,7 @@ fn put<M: Outcome<Words, View>>(cell: &Cell, pass: &mut Pass, version: u64, new:
     for i in 0..PAGE_WORDS {
         cell.table.shared.store::<Puts>(pass, i + 1, new[i]);
     }
-    cell.table
-        .shared
-        .store::<Publishes<M>>(pass, 0, version + 1);
+    cell.table.shared.store::<Shows<M>>(pass, 0, version + 1);
 }
 
 /// Divides the knowledge of a pass between it and a new pass.

@@ -46,12 +46,12 @@ impl Play<Words, Doing<Words, View>> for Puts {
     ghost then = { wrote };
 }
 
-/// The store of the version that ends a publication.
-pub(crate) struct Publishes<M> {
+/// The store of the version that ends a publication: readers see its words.
+pub(crate) struct Shows<M> {
     outcome: PhantomData<M>,
 }
 
-impl<M: Outcome<Words, View>> Play<Words, Doing<Words, View>> for Publishes<M> {
+impl<M: Outcome<Words, View>> Play<Words, Doing<Words, View>> for Shows<M> {
     ghost then = { published M.then };
 }
 

@@ -43,8 +43,7 @@ impl Model for Publisher {
 impl Publisher {
     /// Adds `entry` to the journal and publishes `snapshot`, the snapshot of the longer journal.
     ///
-    /// It waits for a viewer that holds the words after a failed try. After 2^63 - 2 publications
-    /// it waits for ever.
+    /// It waits for a viewer that holds the words. After 2^63 - 2 publications it waits for ever.
     pub fn publish<R: Wait>(&mut self, rt: &R, page: &Page, entry: Entry, snapshot: Snapshot)
         requires page { self.old.page ≡ page.now }
         requires snapshot { snapshot ≡ snapshot_of (followed_by self.old.journal entry) }

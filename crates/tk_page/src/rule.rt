@@ -65,12 +65,10 @@ impl<E: NamesEntry> Outcome<Words, View> for Publishes<E> {
     ghost then = { Published E.entry };
 }
 
-/// The load that is a viewer's read, at the place in the program that `P` names.
-pub struct Reads<P> {
-    place: PhantomData<P>,
-}
+/// The load that is a viewer's read.
+pub struct Reads;
 
-impl<P> Outcome<Words, View> for Reads<P> {
+impl Outcome<Words, View> for Reads {
     ghost use Rattle.tk_page.specs.Views.{Seen};
 
     ghost then = { Seen };

@@ -55,23 +55,8 @@ impl Viewer {
         ensures begins { Begins self.old.journal self.new.journal }
         ensures answer { result ≡ snapshot_of self.new.journal }
     {
-        self.read_at::<(), R>(rt, page)
-    }
-
-    /// Reads as `read` does, at a place in the program that the type `P` names.
-    ///
-    /// The reads of each `P` are compiled apart. The machine code of the only place with a `P`
-    /// contains its read, and takes half the time of a call that several places share.
-    #[inline(always)]
-    pub fn read_at<P, R: Wait>(&mut self, rt: &R, page: &Page) -> Snapshot
-        requires page { self.old.page ≡ page.now }
-        ensures page { self.new.page ≡ self.old.page }
-        ensures reads { self.new.reads ≡ self.old.reads + 1 }
-        ensures begins { Begins self.old.journal self.new.journal }
-        ensures answer { result ≡ snapshot_of self.new.journal }
-    {
         // Step 3 or 4.
-        let words = load::<Reads<P>, R>(rt, &page.cell, &mut self.pass);
+        let words = load::<Reads, R>(rt, &page.cell, &mut self.pass);
         self.front = words[0];
         Snapshot::from_known_words(self.desc, unpack(&words))
     }

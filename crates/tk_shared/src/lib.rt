@@ -17,10 +17,10 @@
 //!
 //! `command`, `follow` and `fold` wait for the lock. `command`, `follow`, `read`, `now` and `close`
 //! may wait for threads that hold the words of the page, as does `prepare` by its contract; `now`
-//! also waits for commands. No other call waits. Only `prepare`, `open` and `SharedReader::new` allocate, and
-//! `command` when the prepared capacity is used up. Units are the same as in `tk_clock`. A front is
-//! the number of accepted commands that a caller has seen on the page. A mark is the number of the
-//! latest publication that it knows of on the latch.
+//! also waits for commands. No other call waits. Only `prepare`, `open` and `SharedReader::new`
+//! allocate, and `command` when the prepared capacity is used up. Units are the same as in
+//! `tk_clock`. A front is the number of accepted commands that a caller has seen on the page. A
+//! mark is the number of the latest publication that it knows of on the latch.
 #![tactic(auto)]
 
 mod caller;

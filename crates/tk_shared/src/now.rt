@@ -98,9 +98,6 @@ impl<L: Named, C: Counter> SharedKeeper<L, C> {
     }
 }
 
-/// Names the place in the program where `now` reads the page.
-struct AtNow;
-
 /// Returns a clock's time by the page, at a reading taken after the last entry that the viewer has
 /// seen and before the next one. It tries again until no command is accepted in between.
 #[inline]
@@ -124,7 +121,7 @@ fn time_seen<R: Wait, S: SharedCounter>(
         notice_reader.new result }
 {
     for _ in rt.forever() {
-        let snapshot = viewer.read_at::<AtNow, R>(rt, &shared.page);
+        let snapshot = viewer.read(rt, &shared.page);
         let Ok(timed) = notice_reader.time(&shared.notice, counter) else {
             // whoever gives the command may need this processor
             thread::yield_now();

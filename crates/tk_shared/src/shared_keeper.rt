@@ -26,9 +26,6 @@ use tk_latch::{LatchReader, Moved};
 use tk_now::NoticeWriter;
 use tk_page::Viewer;
 
-/// Names the place in the program where `read` reads the page.
-struct AtRead;
-
 /// Shares a timekeeper among callers in many threads.
 ///
 /// Commands and folds take its lock; reads don't. Contracts see it as the number of its callers.
@@ -139,18 +136,7 @@ impl<L: Named, C: Counter> SharedKeeper<L, C> {
     pub fn read<R: Wait>(&self, rt: &R, caller: &mut Caller<L>) -> Snapshot
         ensures read { HasRead caller.old caller.new result }
     {
-        self.read_at::<AtRead, R>(rt, caller)
-    }
-
-    /// Reads as `read` does, at a place in the program that the type `P` names.
-    ///
-    /// The reads of each `P` are compiled apart. The machine code of the only place with a `P`
-    /// contains its read, which is faster than a call that several places share.
-    #[inline(always)]
-    pub fn read_at<P, R: Wait>(&self, rt: &R, caller: &mut Caller<L>) -> Snapshot
-        ensures read { HasRead caller.old caller.new result }
-    {
-        caller.viewer.read_at::<P, R>(rt, &self.shared.page)
+        caller.viewer.read(rt, &self.shared.page)
     }
 
     /// Returns the latest publication of the latch, which is no earlier than any that this caller

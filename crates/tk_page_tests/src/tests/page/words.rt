@@ -4,9 +4,6 @@ use std::test::Fail;
 use tk_clock::Command;
 use tk_test_support::opened_page;
 
-/// Names a place that reads.
-struct Here;
-
 #[test]
 fn an_update_is_passed_on_and_read(rt: HostRuntime) -> Result<(), Fail> {
     let (page, mut desk, mut viewer) = opened_page(&rt, rt.alloc()).ok_or("no page")?;
@@ -20,8 +17,6 @@ fn an_update_is_passed_on_and_read(rt: HostRuntime) -> Result<(), Fail> {
     let amount = 1_677_721_600;
     let words = [1, 100, 16_777_216, amount, 0, OPENED_REAL, 0, 0, amount, 0];
     assert_same(&rt, &viewer.read(&rt, &page).words(), &words);
-    let here = viewer.read_at::<Here, _>(&rt, &page);
-    assert_same(&rt, &here.words(), &words);
     assert_same(&rt, &viewer.front(), &1);
     Ok(())
 }
