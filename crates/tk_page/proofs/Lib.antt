@@ -4,3 +4,4 @@ pub mod Shown
 pub mod Views
 pub mod Steps
 pub mod Kept
+pub mod Stored

@@ -2,3 +2,4 @@ pub mod History
 pub mod Packing
 pub mod Views
 pub mod PageError
+pub mod Stored

@@ -8,7 +8,7 @@ ghost use Rattle.tk_page.specs.Views.{Kept};
 ghost use Rattle.tk_page.specs.declared.view.View.TheVariants.{Fresh};
 
 use crate::packing::{PAGE_WORDS, Words};
-use crate::plays::{Checks, Cuts, Glues, Holds, LoadsWord, Looks, Puts, Releases, Shows};
+use crate::plays::{Checks, Cuts, Glues, Holds, LoadsWord, Looks, Puts, Releases, Shows, Skips};
 use crate::rule::Law;
 use crate::view::View;
 use atomic_table::{Join, Split, Table};
@@ -156,7 +156,7 @@ fn hold<R: Wait>(rt: &R, cell: &Cell, pass: &mut Pass, new: Option<Words>) -> u6
     unreachable!()
 }
 
-/// Stores the words that were announced, and then an even version.
+/// Stores the announced words that differ from those in the cell, and then an even version.
 fn put<M: Outcome<Words, View>>(cell: &Cell, pass: &mut Pass, version: u64, new: Words)
     requires cell { pass.old.table_id ≡ cell.now.table.shared.table_id }
     requires held { (former : List ℕ) × (pass.old.me.0.stage ≡ Writing version former new 0)
@@ -167,7 +167,9 @@ fn put<M: Outcome<Words, View>>(cell: &Cell, pass: &mut Pass, version: u64, new:
         × M.then (cell_view pass.old) former new (cell_view pass.new) }
 {
     for i in 0..PAGE_WORDS {
-        cell.table.shared.store::<Puts>(pass, i + 1, new[i]);
+        if cell.table.shared.load::<Skips>(pass, i + 1) != new[i] {
+            cell.table.shared.store::<Puts>(pass, i + 1, new[i]);
+        }
     }
     cell.table.shared.store::<Shows<M>>(pass, 0, version + 1);
 }

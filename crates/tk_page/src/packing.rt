@@ -1,7 +1,7 @@
 //! The page's eight words, into which the ten words of a snapshot are packed.
 //!
-//! A publication stores every word of the cell, and a store is an exchange on x86-64. So the four
-//! words of a snapshot that have at most 32 bits share two words of the page.
+//! A read loads every word of the page, and a publication compares every word with the new one. So
+//! the four words of a snapshot that have at most 32 bits share two words of the page.
 ghost use Rattle.std.specs.Prelude.{◌≡◌, Some};
 ghost use Rattle.tk_clock.specs.Words.{words_of, restored};
 ghost use Rattle.tk_page.specs.Packing.{packed, unpacked};

@@ -18,14 +18,14 @@
 //!      publisher                    version      viewer
 //!   1. makes the page, version 0       0
 //!      exchanges 0 for 1               1
-//!      stores the same words           1
+//!      finds its words there           1
 //!      stores version 2 <-             2
 //!                                      2      3. loads version 2: even
 //!                                      2         loads the words
 //!                                      2         loads version 2 again: the same <-
 //!                                      2      3. loads version 2: even
 //!   2. exchanges 2 for 3               3         loads the words
-//!      stores the new words            3         loads version 3: changed
+//!      stores the words that differ    3         loads version 3: changed
 //!                                      3         loads version 3: odd
 //!      stores version 4 <-             4         and so on, until all tries have failed
 //!                                      5      4. exchanges 4 for 5
@@ -34,7 +34,8 @@
 //! ```
 //!
 //! Step 1 opens the page, step 2 is a publication, step 3 is a read, and step 4 is a read whose
-//! tries failed.
+//! tries failed. A publication loads each word, and stores it only if it differs: a store is an
+//! exchange on x86-64. An update changes four of the eight words.
 //!
 //! Steps 5 and 6 touch no word. They exist for proofs. The publisher and every viewer hold a pass
 //! to the cell of the words. A pass has no bytes. A viewer's pass records the journal that the
@@ -182,7 +183,7 @@ pub(crate) fn note(cell: &Cell, publisher: &mut Pass, viewer: &mut Pass)
     join::<Notes>(cell, publisher, noted);
 }
 
-/// Makes the first pass the publisher's: stores the words that the cell already contains.
+/// Makes the first pass the publisher's: publishes the words that the cell already contains.
 fn take_opening<J: NamesJournal, R: Wait>(rt: &R, cell: &Cell, pass: &mut Pass, snapshot: Snapshot)
     requires cell { pass.old.table_id ≡ cell.now.table.shared.table_id }
     requires view { cell_view pass.old ≡ Fresh }

@@ -1,6 +1,7 @@
 //! The steps on the page's cell, by the rule of crossbeam_utils' sequence-counted cell.
 ghost use Rattle.crossbeam_utils.specs.Seq.{checked, doing, idle, locked, looked, peeked};
 ghost use Rattle.crossbeam_utils.specs.Seq.{published, released, wrote};
+ghost use Rattle.tk_page.specs.Stored.{compared};
 
 use crate::packing::Words;
 use crate::view::View;
@@ -37,6 +38,13 @@ pub(crate) struct Holds;
 
 impl Play<Words, Doing<Words, View>> for Holds {
     ghost then = { locked (λ words. words) 8 };
+}
+
+/// The load of a word that is to be stored next. If it is as it is to be, it counts as stored.
+pub(crate) struct Skips;
+
+impl Play<Words, Doing<Words, View>> for Skips {
+    ghost then = { compared };
 }
 
 /// The store of one of the words.

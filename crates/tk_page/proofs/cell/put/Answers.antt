@@ -1,22 +1,42 @@
-use Rattle.std.proofs.Common.{rules, ◌≡◌, refl, ap, ◌∙◌, subst}
+use Rattle.std.proofs.Common.{rules, ◌≡◌, refl, sym, ap, ◌∙◌, subst}
 use Rattle.crossbeam_utils.proofs.SeqKeeps.{puts, publishes}
 use Rattle.crossbeam_utils.specs.declared.atomic.seq_cell.Stage.TheVariants.{Writing}
 use Rattle.tk_page.specs.declared.view.View.{View}
 use Rattle.tk_page.proofs.Kept.{still_at}
+use Rattle.tk_page.proofs.Stored.{compares}
+use Rattle.tk_page.specs.Stored.{one_more, wanted}
+use Rattle.tk_page.proofs.cell.put.Goals.{then-load-new, else-load-new}
 use Rattle.tk_page.proofs.cell.put.Goals as goal
 
-pub store-requires : goal.store-requires
-store-requires g c = let held = c.requires.held in (
+pub load-requires : goal.load-requires
+load-requires g c = let held = c.requires.held in (
   search rules,
   search rules,
-  puts _ _ _ _ _ _ _ _ _ _ _ (c.loop-i.invariant.1 held.0 held.1) (search rules) (search rules),
+  compares _ _ _ _ _ _ _ (c.loop-i.invariant.1 held.0 held.1) (search rules),
 )
 
+pub store-requires : goal.store-requires
+store-requires g c = let held = c.requires.held in
+    let now = c.loop-i.invariant.1 held.0 held.1 in (
+      search rules,
+      search rules,
+      puts _ _ _ _ _ _ _ _ _ _ _
+          (c.load.ensures.2.2 (λ same. c.if-load-new.true (same ∙ ap wanted now)) ∙ now) (search rules) (search rules),
+    )
+
 pub loop-i-preserved : goal.loop-i-preserved
-loop-i-preserved g c = (
-  search rules,
-  λ former e. c.store.ensures.2.1 _ _ _ _ (c.loop-i.invariant.1 former e),
-)
+loop-i-preserved g c = elim c.if-load-new.branch [
+  | then-load-new w ↦ rw w.pass-is (
+    search rules,
+    λ former e. let now = c.loop-i.invariant.1 former e in
+        w.store.ensures.2.1 _ _ _ _ (c.load.ensures.2.2 (λ same. w.if-load-new.true (same ∙ ap wanted now)) ∙ now),
+  )
+  | else-load-new w ↦ rw w.pass-is (
+    search rules,
+    λ former e. let now = c.loop-i.invariant.1 former e in
+        c.load.ensures.2.1 (w.if-load-new.false ∙ ap wanted (sym now)) ∙ ap one_more now,
+  )
+]
 
 pub store-requires-2 : goal.store-requires-2
 store-requires-2 g c =
