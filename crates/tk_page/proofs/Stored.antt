@@ -1,4 +1,4 @@
--- A word that is found as it is to be stored counts as stored.
+-- A word that already has its new value counts as stored.
 use Rattle.std.proofs.Common.{◌≡◌, ℕ, ◌+◌, ◌-◌, ◌<◌, List, get_or, refl, sym, ap, ◌∙◌, subst}
 use mathlib.Core.Logic.{dite}
 use mathlib.Core.Option.{none}

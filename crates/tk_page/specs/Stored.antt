@@ -1,4 +1,4 @@
--- What a load of one word tells the thread that holds the words.
+-- The effect of a load of one word on the pass of the thread that holds the words.
 use Rattle.std.specs.Prelude.{◌≡◌, ◌≢◌, ℕ, ◌+◌, List, slice_index}
 use Rattle.atomic_table.specs.Table.{Me, Step}
 use Rattle.crossbeam_utils.specs.Seq.{IsSameView}
@@ -16,7 +16,7 @@ abbrev pub one_more : Stage (List ℕ) → Stage (List ℕ)
 one_more (Writing at old new done) = Writing at old new (done + 1)
 one_more stage = stage
 
--- a word that is found as it is to be stored counts as stored
+-- a word that already has its new value counts as stored
 abbrev pub compared : {V : Type 0} → Step (List ℕ) → Me (List ℕ) (Doing (List ℕ) V) → ℕ
     → Me (List ℕ) (Doing (List ℕ) V) → Type 0
 compared st m r m' = IsSameView m m'

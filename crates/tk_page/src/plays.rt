@@ -40,7 +40,7 @@ impl Play<Words, Doing<Words, View>> for Holds {
     ghost then = { locked (λ words. words) 8 };
 }
 
-/// The load of a word that is to be stored next. If it is as it is to be, it counts as stored.
+/// The load of a word that is to be stored next. If it has its new value, it counts as stored.
 pub(crate) struct Skips;
 
 impl Play<Words, Doing<Words, View>> for Skips {

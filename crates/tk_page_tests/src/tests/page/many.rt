@@ -14,7 +14,7 @@ use tk_test_support::{PageDesk, opened_page};
 /// The number of publications.
 const ALL: u64 = 200_000;
 
-/// The number of reads beside a publisher that goes on.
+/// The number of reads beside a publisher that doesn't stop before they have ended.
 const READS: u64 = 100_000;
 
 /// The cycles from one publication to the next, at 1 ns each. The counter wraps on the way.
