@@ -16,6 +16,7 @@ from concurrent import futures
 ROOT = pathlib.Path(__file__).resolve().parent.parent
 LOGIC = "dac8208d650f15bf"
 PARTS = ("src", "specs", "proofs")
+EDITS = "must-fail-together"  # the folder of a crate's wrong edits
 
 
 def rt(verb):

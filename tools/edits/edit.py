@@ -3,6 +3,7 @@ import dataclasses
 import functools
 import pathlib
 
+import rattle
 from edits import contract, source
 
 
@@ -111,7 +112,7 @@ class Edit:
 
 def edits_of(folder):
     """Returns the edits of a crate's folder, by the files that they change, and then by name."""
-    found = [Edit(it) for it in (folder / "must-fail-together").glob("*.edit")]
+    found = [Edit(it) for it in (folder / rattle.EDITS).glob("*.edit")]
     return sorted(found, key=lambda it: (it.pairs[0].file, it.path.name))
 
 
