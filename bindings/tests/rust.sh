@@ -8,12 +8,12 @@ check_rust() {
     if cargo fmt --version >/dev/null 2>&1; then
         cargo fmt --check || fail "a file of the Rust crate has another layout"
     else
-        left_out "rustfmt"
+        left_out "the layout of the Rust crate" "no rustfmt"
     fi
     if cargo clippy --version >/dev/null 2>&1; then
         cargo clippy -q --all-targets -- -D warnings || fail "clippy warns of the Rust crate"
     else
-        left_out "clippy"
+        left_out "warnings on the Rust crate" "no clippy"
     fi
     cargo test -q >"$work/tests" || { cat "$work/tests" && fail "a test of the Rust crate failed"; }
     RUSTDOCFLAGS='-D warnings' cargo doc -q --no-deps || fail "the Rust crate's pages have a fault"

@@ -1,0 +1,111 @@
+"""The list of packages: what is missing, and what apt-get is asked for."""
+from tools import LOGIC, Case
+
+LIST = """# CHECK PACKAGE FOUND BY USED FOR
+
+one     tool        a-tool                          all
+one     files       {room}/none/*|{room}/files/v*   a part, and another
+two     tool        a-tool                          a part
+two     named       -                               all
+three   here        sh                              all
+"""
+
+
+class Packages(Case):
+    def setUp(self):
+        super().setUp()
+        self.top = self.copy()
+        text = LIST.format(room=self.room)
+        (self.top / "tools/packages.txt").write_text(text, encoding="utf-8")
+        self.dpkg("other")
+        self.apt("exit 0")
+
+    def dpkg(self, *installed):
+        lines = ["deinstall ok", *(f"installed {it}" for it in installed), "config-files named"]
+        self.stand_in("dpkg-query", "".join(f"echo '{it}'\n" for it in lines))
+
+    def apt(self, script):
+        self.stand_in("apt-get", f'echo "$DEBIAN_FRONTEND $*" >>{self.room}/apt\n{script}')
+
+    def asked(self):
+        """Returns the calls of apt-get, without the options."""
+        path = self.room / "apt"
+        lines = path.read_text(encoding="utf-8").splitlines() if path.exists() else []
+        for line in lines:
+            self.assertTrue(line.startswith("noninteractive "), line)
+        return [[it for it in line.split()[1:] if it[0] != "-" and "::" not in it] for line in lines]
+
+    def run_packages(self, *words):
+        return self.run_tool("tools/packages", *words, top=self.top)
+
+    def install_tool(self):
+        self.stand_in("a-tool", "exit 0")
+
+    def test_the_list_shows_what_is_installed(self):
+        self.install_tool()
+        status, said, errors = self.run_packages()
+        self.assertEqual((0, ""), (status, errors))
+        self.assertEqual("one\n    installed  tool: the whole check\n"
+                         "    MISSING    files: a part, and another\n"
+                         "two\n    installed  tool: a part\n    MISSING    named: the whole check\n"
+                         "three\n    installed  here: the whole check\n", said)
+
+    def test_a_program_a_path_or_dpkg_shows_that_a_package_is_there(self):
+        self.assertEqual((1, "one: not installed: tool files\ntwo: not installed: tool named\n", ""),
+                         self.run_packages("--missing"))
+        self.install_tool()
+        self.assertEqual((1, "one: not installed: files\n", ""), self.run_packages("--missing", "one"))
+        (self.room / "files").mkdir()
+        (self.room / "files" / "v6").touch()
+        self.assertEqual((0, "", ""), self.run_packages("--missing", "one", "three"))
+        self.dpkg("named")
+        self.assertEqual((0, "", ""), self.run_packages("--missing"))
+
+    def test_what_a_whole_check_needs_is_named_alone(self):
+        self.assertEqual((1, "one: not installed: tool\ntwo: not installed: named\n", ""),
+                         self.run_packages("--needed"))
+        self.install_tool()
+        self.assertEqual((0, "", ""), self.run_packages("--needed", "one"))
+
+    def test_missing_packages_are_installed_at_once(self):
+        self.apt(f'[ "$1" = update ] || {{ ln -s /bin/true {self.first}/a-tool\n'
+                 f"mkdir {self.room}/files\ntouch {self.room}/files/v6\n}}")
+        self.assertEqual((0, "tools/packages: installing tool files\n", ""),
+                         self.run_packages("--install", "one"))
+        self.assertEqual([["update"], ["install", "tool", "files"]], self.asked())
+        self.assertEqual((0, "tools/packages: all packages are installed\n", ""),
+                         self.run_packages("--install", "one"))
+        self.assertEqual(2, len(self.asked()))
+
+    def test_a_package_that_cannot_be_installed_is_named_and_the_others_are_installed(self):
+        self.apt(f'case " $* " in *" update "*) exit 0 ;; *" files "*) echo "E: no files"\nexit 100 ;;'
+                 f" esac\nln -s /bin/true {self.first}/a-tool")
+        status, said, errors = self.run_packages("--install", "one")
+        self.assertEqual((1, "tools/packages: installing tool files\n"
+                             "tools/packages: files can't be installed:\nE: no files\n"
+                             "one: not installed: files\n", ""), (status, said, errors))
+        self.assertEqual([["update"], ["install", "tool", "files"], ["install", "tool"],
+                          ["install", "files"]], self.asked())
+
+    def test_a_failure_of_apt_get_is_told_in_its_own_words(self):
+        self.apt("echo 'E: Permission denied'\nexit 100")
+        status, said, errors = self.run_packages("--install", "two")
+        self.assertEqual((1, ""), (status, errors))
+        self.assertIn("apt-get update failed:\nE: Permission denied\n", said)
+        self.assertEqual("two: not installed: tool named", said.splitlines()[-1])
+
+    def test_each_check_names_what_it_needs_by_the_list(self):
+        text = "".join(f"{it} package-{it} {self.room}/none all\n"
+                       for it in ("check_c", "check_run", "check_kernel"))
+        (self.top / "tools/packages.txt").write_text(text, encoding="utf-8")
+        self.stand_in("rt", f'echo "rattle-kit-99z logic {LOGIC}"')
+        for name in "check_c", "check_run", "check_kernel":
+            with self.subTest(name):
+                status, said, errors = self.run_tool(f"tools/{name}", "--needs", top=self.top)
+                self.assertEqual((1, f"{name}: not installed: package-{name}\n"),
+                                 (status, said + errors))
+
+    def test_an_unknown_check_is_an_error(self):
+        status, said, errors = self.run_packages("--missing", "four")
+        self.assertEqual((2, ""), (status, said))
+        self.assertEqual("packages: error: no packages are listed for four", errors.splitlines()[-1])

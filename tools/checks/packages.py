@@ -1,0 +1,105 @@
+"""The Debian packages that the checks use, as tools/packages.txt lists them."""
+import dataclasses
+import functools
+import glob
+import os
+import pathlib
+import shutil
+import subprocess
+
+LIST = pathlib.Path(__file__).resolve().parents[1] / "packages.txt"
+INSTALL = ["install", "-y", "-q", "--no-install-recommends", "-o", "DPkg::Lock::Timeout=600"]
+
+
+@dataclasses.dataclass(frozen=True)
+class Use:
+    """A line of the list: a package that a check uses."""
+
+    check: str
+    package: str
+    found_by: str  # a program, a path, or "-"
+    part: str  # the part of the check that needs it, or "all"
+
+    @property
+    def is_needed(self):
+        """Whether the whole check is left out without the package."""
+        return self.part == "all"
+
+    @property
+    def is_installed(self):
+        if self.found_by == "-":
+            return self.package in installed()
+        return any(is_there(os.path.expandvars(it)) for it in self.found_by.split("|"))
+
+
+def is_there(name):
+    """Whether a path exists, or a program is in PATH or where Debian has those of root."""
+    if "/" in name:
+        return bool(glob.glob(name))
+    return bool(shutil.which(name, path=f"{os.environ['PATH']}:/usr/sbin:/sbin"))
+
+
+@functools.cache
+def installed():
+    """Returns the names of the packages that dpkg has installed: none on another system."""
+    words = ["dpkg-query", "--show", "--showformat=${db:Status-Status} ${Package}\n"]
+    try:
+        said = subprocess.run(words, capture_output=True, text=True, check=False).stdout
+    except FileNotFoundError:
+        return frozenset()
+    return frozenset(it.split()[1] for it in said.splitlines() if it.startswith("installed "))
+
+
+@functools.cache
+def uses():
+    """Returns the lines of the list."""
+    lines = LIST.read_text(encoding="utf-8").splitlines()
+    return [Use(*line.split(maxsplit=3)) for line in lines if line and not line.startswith("#")]
+
+
+def checks():
+    """Returns the names of the checks that use packages."""
+    return list(dict.fromkeys(it.check for it in uses()))
+
+
+def of(check):
+    return [it for it in uses() if it.check == check]
+
+
+def missing(check, is_needed_only=False):
+    """Returns the packages of a check that aren't installed, or only those that all of it needs."""
+    return list(dict.fromkeys(it.package for it in of(check) if not it.is_installed
+                              and (it.is_needed or not is_needed_only)))
+
+
+def named_in(check, reason):
+    """Returns the packages of a check that a reason names, also as "PROGRAM isn't installed"."""
+    words = set(reason.replace(",", " ").split())
+    program, is_program, _ = pathlib.Path(reason).name.partition(" isn't installed")
+    return list(dict.fromkeys(it.package for it in of(check) if it.package in words
+                              or is_program and pathlib.Path(it.found_by).name == program))
+
+
+def apt_get(*words):
+    """Runs apt-get. Returns its status and the last lines that it printed."""
+    try:
+        ran = subprocess.run(["apt-get", *words], check=False, text=True, errors="replace",
+                             env={**os.environ, "DEBIAN_FRONTEND": "noninteractive"},
+                             stdin=subprocess.DEVNULL, stdout=subprocess.PIPE,
+                             stderr=subprocess.STDOUT)
+    except FileNotFoundError:
+        return 127, "there is no apt-get"
+    return ran.returncode, "\n".join(ran.stdout.splitlines()[-5:])
+
+
+def install(names):
+    """Installs packages, each alone if they can't be installed together. Yields what failed."""
+    status, said = apt_get("update", "-q")
+    if status:
+        yield f"apt-get update failed:\n{said}"
+    if not apt_get(*INSTALL, *names)[0]:
+        return
+    for name in names:
+        status, said = apt_get(*INSTALL, name)
+        if status:
+            yield f"{name} can't be installed:\n{said}"
