@@ -1,0 +1,222 @@
+"""The verdicts of .ci/run on checks that run, fail, or are left out as a whole or in part."""
+import os
+import pathlib
+import signal
+import subprocess
+import time
+
+from tools import LOGIC, Case
+
+CHECKS = ["check_docs", "must_fail", "tests/tools", "check_using", "rt ci", "check_c",
+          "check_bindings", "check_program", "check_run", "check_kernel"]
+# (libtkcore.a stands for what check_c keeps)
+KEEPS = '[ "$1" = --keep ] && mkdir "$2" && touch "$2/libtkcore.a"'
+LIST = """# CHECK PACKAGE FOUND BY USED FOR
+
+check_c         part-of-c       c-part                  the headers by c-part
+check_kernel    emulator        emulate                 all
+check_run       a-language      a-language              a program
+"""
+# installs all packages but broken ones, as programs in PATH
+APT = r"""
+echo "$*" >>{room}/apt
+[ "$1" = install ] || exit 0
+for word; do
+    case $word in
+    emulator) name=emulate ;;
+    part-of-c) name=c-part ;;
+    a-language) name=a-language ;;
+    *) continue ;;
+    esac
+    case " {broken} " in *" $word "*) echo "E: no $word" && exit 100 ;; esac
+    printf '#!/bin/sh\n' >{room}/first/$name
+    chmod +x {room}/first/$name
+done
+"""
+
+
+class Ci(Case):
+    def setUp(self):
+        super().setUp()
+        self.stand_in("rt", f'echo "rattle-kit-99z logic {LOGIC}"')
+        self.top = self.copy("crates.txt", ".ci")
+        self.write("tools/packages.txt", LIST)
+        self.write("tests/tools/test_none.py", "")
+        for name in CHECKS:
+            self.stub(name, "echo done")
+        self.stub("check_c", f"{KEEPS}\necho done")
+        self.apt("")
+
+    def write(self, name, text):
+        path = self.top / name
+        path.parent.mkdir(parents=True, exist_ok=True)
+        path.write_text(text, encoding="utf-8")
+        return path
+
+    def stub(self, name, script):
+        """Replaces the tool of a check by a script. `rt ci` is must_fail with an argument --ci."""
+        if name == "tests/tools":
+            script = script.replace("echo done", "pass")
+            self.write("tests/tools/test_stub.py", f"import unittest\n{script}\n")
+            return
+        if name in ("must_fail", "rt ci"):
+            self.scripts = {**getattr(self, "scripts", {}), name: script}
+            name, script = "must_fail", "\n".join(
+                f'[ "$1" != {word} ] || {{ {self.scripts.get(check, ":")}\nexit; }}'
+                for check, word in [("must_fail", "--apply"), ("rt ci", "--ci")])
+        self.write(f"tools/{name}", f"#!/bin/sh\n{script}\n").chmod(0o755)
+
+    def apt(self, broken):
+        """Makes an apt-get that can't install these packages."""
+        self.stand_in("apt-get", APT.format(room=self.room, broken=broken))
+
+    def run_ci(self, *words, ci=""):
+        """Runs CI. Returns its status, the verdicts by name, the closing line and the output."""
+        before = os.environ.get("CI")
+        os.environ["CI"] = ci
+        try:
+            status, said, errors = self.run_tool(".ci/run", *words, top=self.top)
+        finally:
+            os.environ.pop("CI")
+            if before is not None:
+                os.environ["CI"] = before
+        self.assertEqual("", errors)
+        *_, last = said.splitlines()
+        summary = said.partition("\n.ci/run ")[2].splitlines()
+        lines = [it.split(": ", 2)[1:] for it in summary if it.startswith("CI: ")]
+        verdicts = {name: word for name, word in lines if name[0] != " "}
+        self.assertEqual(CHECKS, list(verdicts))
+        return status, verdicts, last, said
+
+    def but(self, **others):
+        """Returns the verdicts on checks that ran, but for these."""
+        return {**dict.fromkeys(CHECKS, "ran"), **others}
+
+    def parts(self, said):
+        """Returns the parts that the last lines name as left out."""
+        return [it.removeprefix("CI:     left out: ") for it in said.splitlines()
+                if it.startswith("CI:     left out: ")]
+
+    def test_all_that_is_installed_runs_and_is_counted(self):
+        for name in "emulate", "c-part", "a-language":
+            self.stand_in(name, "exit 0")
+        status, verdicts, last, said = self.run_ci()
+        self.assertEqual((0, self.but(), "10 passed, 0 failed"), (status, verdicts, last))
+        self.assertEqual([], self.parts(said))
+        self.assertFalse((self.room / "apt").exists())
+
+    def test_a_check_without_its_packages_is_left_out_and_named(self):
+        status, verdicts, last, said = self.run_ci()
+        wanted = self.but(check_kernel="left out: emulator")
+        self.assertEqual((0, wanted, "9 passed, 0 failed, 1 skipped"), (status, verdicts, last))
+        # (parts are named also if their check says nothing of them)
+        self.assertEqual(["the headers by c-part: part-of-c", "a program: a-language"],
+                         self.parts(said))
+
+    def test_packages_are_installed_first_with_the_option_and_in_ci(self):
+        for words, ci in ([["--install"], ""], [[], "true"]):
+            with self.subTest(words):
+                status, verdicts, last, said = self.run_ci(*words, ci=ci)
+                self.assertEqual((0, self.but(), "10 passed, 0 failed"), (status, verdicts, last))
+                self.assertIn("installing part-of-c emulator a-language\n", said)
+                for name in "emulate", "c-part", "a-language":
+                    (self.first / name).unlink()
+
+    def test_packages_that_cannot_be_installed_leave_their_checks_out(self):
+        self.apt("emulator")
+        status, verdicts, last, said = self.run_ci(ci="true")
+        wanted = self.but(check_kernel="left out: emulator")
+        self.assertEqual((0, wanted, "9 passed, 0 failed, 1 skipped"), (status, verdicts, last))
+        self.assertIn("tools/packages: emulator can't be installed:\nE: no emulator\n", said)
+        self.assertIn("CI: not all packages could be installed", said)
+        # (apt-get installs none of several if one can't be, so the others were installed alone)
+        self.assertTrue((self.first / "c-part").exists())
+        self.assertTrue((self.first / "a-language").exists())
+
+    def test_a_part_left_out_with_its_packages_installed_fails_where_they_are_to_be(self):
+        self.stand_in("emulate", "exit 0")
+        self.stub("check_run", "echo 'check_run: left out test_go: a-language isn'\"'t installed\"")
+        part = "test_go: a-language isn't installed"
+        status, verdicts, last, said = self.run_ci()
+        self.assertEqual((0, self.but(), "10 passed, 0 failed"), (status, verdicts, last))
+        self.assertIn(part, self.parts(said))
+        status, verdicts, last, said = self.run_ci(ci="true")
+        why = "failed: left out with its packages installed: test_go"
+        self.assertEqual((1, self.but(check_run=why), "9 passed, 1 failed"),
+                         (status, verdicts, last))
+        self.apt("a-language")
+        (self.first / "a-language").unlink()
+        status, verdicts, last, said = self.run_ci(ci="true")
+        self.assertEqual((0, self.but(), "10 passed, 0 failed"), (status, verdicts, last))
+        self.assertIn(part, self.parts(said))
+
+    def test_a_part_left_out_for_another_reason_is_named_and_passes(self):
+        self.stub("check_c", f"{KEEPS}\necho 'check_c: left out: reads of the TSC: no constant TSC'")
+        status, verdicts, last, said = self.run_ci(ci="true")
+        self.assertEqual((0, self.but(), "10 passed, 0 failed"), (status, verdicts, last))
+        self.assertEqual(["reads of the TSC: no constant TSC"], self.parts(said))
+
+    def test_a_check_that_fails_is_named_and_counted(self):
+        self.stand_in("emulate", "exit 0")
+        self.stub("check_run", "echo 'a test failed'\nexit 3")
+        status, verdicts, last, said = self.run_ci()
+        self.assertEqual((1, self.but(check_run="failed: status 3"), "9 passed, 1 failed"),
+                         (status, verdicts, last))
+        self.assertIn("a test failed\n", said)
+
+    def test_nothing_long_runs_after_a_quick_check_that_fails(self):
+        self.stub("must_fail", "exit 1")
+        status, verdicts, last, _ = self.run_ci()
+        rest = dict.fromkeys(CHECKS[3:], "not run: after a failure of must_fail")
+        self.assertEqual((1, self.but(must_fail="failed: status 1", **rest),
+                          "2 passed, 1 failed, 7 skipped"), (status, verdicts, last))
+
+    def test_the_packages_are_checked_after_rt_ci_failed_and_the_program_is_not(self):
+        self.stub("rt ci", "echo '40 passed, 2 failed'\nexit 1")
+        status, verdicts, last, said = self.run_ci()
+        rest = dict.fromkeys(CHECKS[7:], "not run: after a failure of rt ci")
+        self.assertEqual((1, self.but(**{"rt ci": "failed: status 1"}, **rest),
+                          "6 passed, 1 failed, 3 skipped"), (status, verdicts, last))
+        self.assertIn("\n40 passed, 2 failed\n", said)
+
+    def test_the_library_that_is_not_built_is_not_tried(self):
+        self.stub("check_c", "exit 1")
+        _, verdicts, last, _ = self.run_ci()
+        self.assertEqual("not run: after a failure of check_c", verdicts["check_bindings"])
+        self.assertEqual("5 passed, 1 failed, 4 skipped", last)
+
+    def test_the_times_of_the_checks_are_printed_as_the_page_has_them(self):
+        _, _, _, said = self.run_ci()
+        times = said.partition("docs/times.txt:\n")[2].partition("CI: ")[0].splitlines()
+        for line in times:
+            self.assertRegex(line, r"^[\w./ ]{15} +\d+ s +\d+ s$")
+        names = [it[:16].strip() for it in times]
+        self.assertEqual([*CHECKS[:-1], ".ci/run"], names)
+
+    def test_an_end_from_outside_ends_all_that_was_started(self):
+        started = self.room / "started"
+        self.stub("check_using", f"sleep 3600 & echo $! >{started}.using\nwait")
+        self.stub("rt ci", f"sleep 3600 & echo $! >{started}.rt\nwait")
+        found = {**os.environ, "PATH": f"{self.first}:{os.environ['PATH']}", "TMPDIR": str(self.room)}
+        with subprocess.Popen([str(self.top / ".ci/run")], env=found, stdout=subprocess.DEVNULL) as ran:
+            files = [pathlib.Path(f"{started}.{it}") for it in ("using", "rt")]
+            for _ in range(600):
+                if all(it.exists() and it.read_text() for it in files):
+                    break
+                time.sleep(0.1)
+            ran.send_signal(signal.SIGTERM)
+            self.assertEqual(130, ran.wait(60))
+        for file in files:
+            self.assertFalse(pathlib.Path("/proc", file.read_text().strip(), "exe").exists())
+        self.assertEqual([], list(self.room.glob("ci-*")))
+
+    def test_what_a_check_leaves_behind_is_ended(self):
+        left = self.room / "left"
+        self.stub("check_run", f"sleep 3600 & echo $! >{left}")
+        self.assertEqual(0, self.run_ci()[0])
+        self.assertFalse(pathlib.Path("/proc", left.read_text().strip(), "exe").exists())
+
+    def test_other_arguments_are_refused(self):
+        status, said, errors = self.run_tool(".ci/run", "--instal1", top=self.top)
+        self.assertEqual((2, ""), (status, said))
+        self.assertIn("unrecognized arguments", errors)

@@ -1,0 +1,67 @@
+"""A command of CI in a process group, so that it can be ended with all that it started."""
+import contextlib
+import os
+import pathlib
+import signal
+import subprocess
+import time
+
+PAUSE = 0.1  # s between two looks at a command's output
+GRACE = 10  # s that a command has to end after SIGTERM
+
+
+class Job:
+    """A command that runs. Its output goes into a file."""
+
+    def __init__(self, command, output, is_beside):
+        """Starts a command; beside others, on the processors that they leave idle."""
+        self.output = pathlib.Path(output)
+        self.started = time.monotonic()
+        words = [*(["nice", "-n", "10"] if is_beside else []), *map(str, command)]
+        with open(self.output, "wb") as file:
+            self.process = subprocess.Popen(words, stdin=subprocess.DEVNULL, stdout=file,
+                                            stderr=subprocess.STDOUT, process_group=0)
+        self.number = self.process.pid
+        self.status = None
+        self.wall_sec = self.processor_sec = 0
+
+    def has_ended(self):
+        """Whether the command has ended. What it left in its group is ended then."""
+        if self.status is not None:
+            return True
+        if not os.waitid(os.P_PID, self.number, os.WEXITED | os.WNOHANG | os.WNOWAIT):
+            return False
+        # (its number can't be another group's as long as it isn't waited for)
+        self.signal(signal.SIGKILL)
+        _, status, usage = os.wait4(self.number, 0)
+        self.status = self.process.returncode = os.waitstatus_to_exitcode(status)
+        self.wall_sec = time.monotonic() - self.started
+        self.processor_sec = usage.ru_utime + usage.ru_stime
+        return True
+
+    def signal(self, number):
+        with contextlib.suppress(ProcessLookupError):
+            os.killpg(self.number, number)
+
+    def follow(self):
+        """Prints the output of the command until it has ended. Returns all of it."""
+        found = []
+        with open(self.output, encoding="utf-8", errors="replace") as file:
+            while True:
+                has_ended = self.has_ended()
+                found.append(file.read())
+                print(found[-1], end="", flush=True)
+                if has_ended:
+                    return "".join(found)
+                time.sleep(PAUSE)
+
+    def end(self):
+        """Ends the command with all that it started."""
+        if self.has_ended():
+            return
+        self.signal(signal.SIGTERM)
+        last = time.monotonic() + GRACE
+        while not self.has_ended() and time.monotonic() < last:
+            time.sleep(PAUSE)
+        if not self.has_ended():
+            self.signal(signal.SIGKILL)

@@ -1,0 +1,79 @@
+"""A run of CI: its checks, each in a job, and their verdicts."""
+import pathlib
+import resource
+import shutil
+import tempfile
+import time
+
+from checks import packages, verdict
+from checks.job import Job
+
+LEFT_IN_TREE = ["out", "dist", "__pycache__"]  # what a copy of the tree doesn't get
+
+
+def time_of(sec):
+    return f"{int(sec) // 60} min {int(sec) % 60} s"
+
+
+class Run:
+    """A run of CI in a temporary folder."""
+
+    def __init__(self, names, top, is_strict):
+        """Begins a run of these checks. If it is strict, packages were to be installed for it."""
+        self.top, self.is_strict = top, is_strict
+        self.started = time.monotonic()
+        self.work = pathlib.Path(tempfile.mkdtemp(prefix="ci-"))
+        self.jobs = {}
+        self.verdicts = {name: verdict.Verdict(name, "not run") for name in names}
+
+    def has_failed(self, *names):
+        """Whether one of these checks has failed, or any check if none is named."""
+        return any(self.verdicts[it].word == "failed" for it in names or self.verdicts)
+
+    def start(self, name, *command, is_beside=False):
+        """Starts a check, unless a package isn't there without which nothing of it runs."""
+        if missing := packages.missing(name, is_needed_only=True):
+            self.verdicts[name] = verdict.Verdict(name, "left out", " ".join(missing))
+            return
+        self.jobs[name] = Job(command, self.work / name.replace("/", "-"), is_beside)
+
+    def end(self, name):
+        """Waits for a check, prints what it prints, and judges it."""
+        if name in self.jobs:
+            job = self.jobs[name]
+            self.verdicts[name] = verdict.judge(name, job, job.follow(), self.is_strict)
+            print(f"CI: {name} ended after {time_of(time.monotonic() - self.started)}", flush=True)
+
+    def check(self, name, *command):
+        """Runs a check in front."""
+        self.start(name, *command)
+        self.end(name)
+
+    def copy(self, name):
+        """Copies the tree, in which a tool can prove. Returns the copy's top."""
+        copy = self.work / name
+        shutil.copytree(self.top, copy, symlinks=True, ignore=shutil.ignore_patterns(*LEFT_IN_TREE))
+        return copy
+
+    def close(self):
+        """Ends what still runs, and removes the folder."""
+        for job in self.jobs.values():
+            job.end()
+        shutil.rmtree(self.work, ignore_errors=True)
+
+    def report(self):
+        """Prints the times and the verdicts. Returns the status to end with."""
+        wall, used = time.monotonic() - self.started, resource.getrusage(resource.RUSAGE_CHILDREN)
+        found = list(self.verdicts.values())
+        times = [(it.name, it.wall_sec, it.processor_sec) for it in found if it.wall_sec]
+        print("CI: the times, in the form of docs/times.txt:")
+        for name, wall_sec, processor_sec in [*times, (".ci/run", wall, used.ru_utime + used.ru_stime)]:
+            print(f"{name:<16}{wall_sec:>6.0f} s {processor_sec:>7.0f} s")
+        reason = " ".join(it.name for it in found if it.word == "failed")
+        for it in found:
+            if it.word == "not run":
+                it.why = f"after a failure of {reason}"
+            print(it)
+        print(f"CI took {time_of(wall)}")
+        print(verdict.closing(found))
+        return 1 if any(it.word in ("failed", "not run") for it in found) else 0
