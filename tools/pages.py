@@ -3,6 +3,8 @@ import pathlib
 import re
 
 ROOT = pathlib.Path(__file__).resolve().parent.parent
+NUMBERS = ("zero one two three four five six seven eight nine ten eleven twelve thirteen fourteen "
+           "fifteen sixteen seventeen eighteen nineteen twenty").split()
 
 
 class Page:
@@ -42,6 +44,14 @@ class Page:
         """The names by which links lead to the headings."""
         titles = [line.lstrip("# ") for _, line in self.prose if re.match(r"#+ ", line)]
         return {re.sub(r"[^\w\- ]", "", title.lower()).replace(" ", "-") for title in titles}
+
+
+def number_of(word):
+    """Returns the number that a word or digits state, or None."""
+    digits = word.replace(",", "")
+    if word.lower() in NUMBERS:
+        return NUMBERS.index(word.lower())
+    return int(digits) if digits.isdigit() else None
 
 
 def pages():
