@@ -17,7 +17,7 @@ def check_all(run):
     """Runs all checks; those that take long only if the first ones pass."""
     run.check("check_docs", "tools/check_docs")
     run.check("must_fail", "tools/must_fail", "--apply")
-    run.check("tests/tools", sys.executable, "-B", "-m", "unittest", "discover", "-s", "tests/tools")
+    run.check("tests/tools", "python3", "-B", "-m", "unittest", "discover", "-s", "tests/tools")
     if run.has_failed():
         return
     # `rt ci` and the library for C each prove in a copy's folders out/
@@ -56,7 +56,7 @@ def main():
     is_strict = given.install or os.environ.get("CI") == "true"
     on_signal(stop)
     if is_strict and subprocess.run(["tools/packages", "--install"], check=False).returncode:
-        print("CI: not all packages could be installed; what needs the others is left out", flush=True)
+        print("CI: not all packages could be installed: what needs them is left out", flush=True)
     run = Run(CHECKS, rattle.ROOT, is_strict)
     try:
         check_all(run)

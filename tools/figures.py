@@ -25,7 +25,8 @@ COUNTS = {
             f"steered clocks (?:with their counter as {WORDS}|as {WORDS} with their counter)"],
     },
     "crates/tk_page/src/packing.rt": {
-        r"^pub const PAGE_WORDS: usize = (\d+);$": [f"{WORDS} of a page", f"[Aa] page (?:has|stores|of) {WORDS}"],
+        r"^pub const PAGE_WORDS: usize = (\d+);$": [f"{WORDS} of a page",
+                                                    f"[Aa] page (?:has|stores|of) {WORDS}"],
     },
 }
 
@@ -47,7 +48,8 @@ def other_ratios(found):
             yield f"{README}: an item on speed isn't '- `JOB`, .. against Rust or C: RATIO': {line}"
         elif table.get(item.groups()[:2]) != item[3]:
             job, peer, ratio = item.groups()
-            yield f"{README}: {job} {ratio}, but {SPEED} has {table.get((job, peer))} against {peer}"
+            row = table.get((job, peer))
+            yield f"{README}: {job} {ratio}, but {SPEED} has {row} against {peer}"
 
 
 def other_heads(found):
@@ -69,7 +71,7 @@ def wrong_times(text):
     found = {line: TIME.fullmatch(line) for line in lines}
     yield from (f"{TIMES}: not NAME N s N s: {line}" for line, time in found.items() if not time)
     names = {time[1] for time in found.values() if time}
-    yield from (f"{TIMES}: no line for {name}" for name in (*CHECKS, ".ci/run") if name not in names)
+    yield from (f"{TIMES}: no line for {it}" for it in (*CHECKS, ".ci/run") if it not in names)
 
 
 def stated_times(page):

@@ -1,4 +1,4 @@
-"""Which wrong edits are tried: those that a crate's content chooses, or all of the changed crates."""
+"""Which wrong edits are tried: those that a crate's content chooses, or all of changed crates."""
 import shutil
 import subprocess
 
@@ -13,8 +13,9 @@ class Chosen(Case):
     def setUp(self):
         super().setUp()
         self.stand_in("rt", f'echo "rattle-kit-99z logic {LOGIC}"')
-        self.stand_in("rattle", 'for word; do case $word in --crate-name=*) name=${word#*=} ;; esac; '
-                                'done\necho "fn $name::first: not proved"\nexit 1')
+        self.stand_in("rattle", 'for word; do\n'
+                                'case $word in --crate-name=*) name=${word#*=} ;; esac\ndone\n'
+                                'echo "fn $name::first: not proved"\nexit 1')
         self.top = self.copy()
         self.write("crates.txt", "# The product\nlow:\nhigh:\nbare:\n")
         self.write("crates/bare/src/lib.rt", SOURCE)
@@ -48,7 +49,7 @@ class Chosen(Case):
         status, said, errors = self.run_tool("tools/must_fail", "--changed", base, top=self.top)
         self.assertEqual((0, ""), (status, errors), said)
         edits = [line.partition(":")[0] for line in said.splitlines() if ".edit: " in line]
-        counts = {crate: sum(it.startswith(f"{crate}/") for it in edits) for crate in ("low", "high")}
+        counts = {it: sum(edit.startswith(f"{it}/") for edit in edits) for it in ("low", "high")}
         return said.splitlines()[0].removeprefix(f"must_fail: since {base}: "), counts
 
     def seed(self, top):

@@ -128,7 +128,7 @@ class Ci(Case):
         wanted = self.but(check_kernel="left out: emulator")
         self.assertEqual((0, wanted, "9 passed, 0 failed, 1 skipped"), (status, verdicts, last))
         self.assertIn("tools/packages: emulator can't be installed:\nE: no emulator\n", said)
-        self.assertIn("CI: not all packages could be installed", said)
+        self.assertIn("CI: not all packages could be installed:", said)
         # (apt-get installs none of several if one can't be, so the others were installed alone)
         self.assertTrue((self.first / "c-part").exists())
         self.assertTrue((self.first / "a-language").exists())
@@ -151,10 +151,10 @@ class Ci(Case):
         self.assertIn(part, self.parts(said))
 
     def test_a_part_left_out_for_another_reason_is_named_and_passes(self):
-        self.stub("check_c", f"{KEEPS}\necho 'check_c: left out: reads of the TSC: no constant TSC'")
+        self.stub("check_c", f"{KEEPS}\necho 'check_c: left out: reads of the TSC: no TSC'")
         status, verdicts, last, said = self.run_ci(ci="true")
         self.assertEqual((0, self.but(), "10 passed, 0 failed"), (status, verdicts, last))
-        self.assertEqual(["reads of the TSC: no constant TSC"], self.parts(said))
+        self.assertEqual(["reads of the TSC: no TSC"], self.parts(said))
 
     def test_a_check_that_fails_is_named_and_counted(self):
         self.stand_in("emulate", "exit 0")
@@ -197,8 +197,9 @@ class Ci(Case):
         started = self.room / "started"
         self.stub("check_using", f"sleep 3600 & echo $! >{started}.using\nwait")
         self.stub("rt ci", f"sleep 3600 & echo $! >{started}.rt\nwait")
-        found = {**os.environ, "PATH": f"{self.first}:{os.environ['PATH']}", "TMPDIR": str(self.room)}
-        with subprocess.Popen([str(self.top / ".ci/run")], env=found, stdout=subprocess.DEVNULL) as ran:
+        path = f"{self.first}:{os.environ['PATH']}"
+        with subprocess.Popen([str(self.top / ".ci/run")], stdout=subprocess.DEVNULL,
+                              env={**os.environ, "PATH": path, "TMPDIR": str(self.room)}) as ran:
             files = [pathlib.Path(f"{started}.{it}") for it in ("using", "rt")]
             for _ in range(600):
                 if all(it.exists() and it.read_text() for it in files):

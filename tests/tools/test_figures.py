@@ -25,7 +25,8 @@ def page(name, text):
 class Figures(unittest.TestCase):
     def ratios(self, *items):
         """Returns the faults of README with these items on speed."""
-        text = "# A\n\n## Speed\n\nOurs:\n\n" + "".join(f"- {it}\n" for it in items) + "\n## B\n\n- x\n"
+        listed = "".join(f"- {it}\n" for it in items)
+        text = f"# A\n\n## Speed\n\nOurs:\n\n{listed}\n## B\n\n- x\n"
         found = {"README.md": page("README.md", text),
                  "bench/README.md": page("bench/README.md", TABLE)}
         return list(figures.other_ratios(found))
@@ -40,8 +41,8 @@ class Figures(unittest.TestCase):
 
     def test_an_item_on_speed_names_its_row(self):
         line = "- a read of the page, against a seqlock in C: 0.57"
-        self.assertEqual(["README.md: an item on speed isn't '- `JOB`, .. against Rust or C: RATIO': "
-                          + line], self.ratios(line[2:]))
+        why = "README.md: an item on speed isn't '- `JOB`, .. against Rust or C: RATIO'"
+        self.assertEqual([f"{why}: {line}"], self.ratios(line[2:]))
 
     def heads(self, *heads):
         text = TABLE + "".join(f"- **{it}** The reason.\n" for it in heads)
@@ -66,23 +67,24 @@ class Figures(unittest.TestCase):
                          list(figures.wrong_times("\n".join([*lines, "rt ci 40 minutes"]))))
 
     def test_no_page_gives_the_time_of_a_tool(self):
-        for line in ["| `tools/check_c` | tests | 6 minutes |", "    tools/build_c  # proves: 9 minutes",
+        for line in ["| `tools/check_c` | tests | 6 minutes |", "    tools/build_c  # 9 minutes",
                      "`.ci/run` takes about an hour.", "(`rt ci` needs 40 minutes)",
                      "`tools/check_kernel` takes half a minute, or 90 s."]:
             with self.subTest(line):
                 self.assertEqual(1, len(list(figures.stated_times(page("a.md", line)))))
         for line in ["`tools/build_program` proves it a second time.", "It takes 5 minutes.",
-                     "`rt try` takes a minute.", "crates/tools/a takes 5 s", "`tools/plot` draws 5 sets."]:
+                     "`rt try` takes a minute.", "crates/tools/a takes 5 s",
+                     "`tools/plot` draws 5 sets."]:
             with self.subTest(line):
                 self.assertEqual([], list(figures.stated_times(page("a.md", line))))
 
     def counts(self, text):
-        rest = ("The ten words of a snapshot, and the eight words of a page; clocks as 15 words with "
+        rest = ("The ten words of a snapshot, the eight words of a page, clocks as 15 words with "
                 "their counter, and steered clocks with their counter as 33 words. ")
         return list(figures.other_counts({"a.md": page("a.md", rest + text)}))
 
     def test_numbers_of_words_are_those_of_the_sources(self):
-        self.assertEqual([], self.counts("A page has eight words. All ten 64-bit words of a\nsnapshot."))
+        self.assertEqual([], self.counts("A page has eight words. Ten words of a\nsnapshot."))
         self.assertEqual(["a.md: A page stores ten words, but crates/tk_page/src/packing.rt has 8"],
                          self.counts("A page stores ten words."))
         self.assertEqual(["a.md: snapshot is 8 64-bit words, but include/tkcore.h has 10"],

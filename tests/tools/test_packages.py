@@ -33,7 +33,8 @@ class Packages(Case):
         lines = path.read_text(encoding="utf-8").splitlines() if path.exists() else []
         for line in lines:
             self.assertTrue(line.startswith("noninteractive "), line)
-        return [[it for it in line.split()[1:] if it[0] != "-" and "::" not in it] for line in lines]
+        return [[it for it in line.split()[1:] if it[0] != "-" and "::" not in it]
+                for line in lines]
 
     def run_packages(self, *words):
         return self.run_tool("tools/packages", *words, top=self.top)
@@ -51,10 +52,11 @@ class Packages(Case):
                          "three\n    installed  here: the whole check\n", said)
 
     def test_a_program_a_path_or_dpkg_shows_that_a_package_is_there(self):
-        self.assertEqual((1, "one: not installed: tool files\ntwo: not installed: tool named\n", ""),
-                         self.run_packages("--missing"))
+        said = "one: not installed: tool files\ntwo: not installed: tool named\n"
+        self.assertEqual((1, said, ""), self.run_packages("--missing"))
         self.install_tool()
-        self.assertEqual((1, "one: not installed: files\n", ""), self.run_packages("--missing", "one"))
+        said = "one: not installed: files\n"
+        self.assertEqual((1, said, ""), self.run_packages("--missing", "one"))
         (self.room / "files").mkdir()
         (self.room / "files" / "v6").touch()
         self.assertEqual((0, "", ""), self.run_packages("--missing", "one", "three"))
@@ -78,8 +80,8 @@ class Packages(Case):
         self.assertEqual(2, len(self.asked()))
 
     def test_a_package_that_cannot_be_installed_is_named_and_the_others_are_installed(self):
-        self.apt(f'case " $* " in *" update "*) exit 0 ;; *" files "*) echo "E: no files"\nexit 100 ;;'
-                 f" esac\nln -s /bin/true {self.first}/a-tool")
+        self.apt('case " $* " in\n*" update "*) exit 0 ;;\n*" files "*) echo "E: no files"\n'
+                 f"exit 100 ;;\nesac\nln -s /bin/true {self.first}/a-tool")
         status, said, errors = self.run_packages("--install", "one")
         self.assertEqual((1, "tools/packages: installing tool files\n"
                              "tools/packages: files can't be installed:\nE: no files\n"
@@ -108,4 +110,5 @@ class Packages(Case):
     def test_an_unknown_check_is_an_error(self):
         status, said, errors = self.run_packages("--missing", "four")
         self.assertEqual((2, ""), (status, said))
-        self.assertEqual("packages: error: no packages are listed for four", errors.splitlines()[-1])
+        why = "packages: error: no packages are listed for four"
+        self.assertEqual(why, errors.splitlines()[-1])

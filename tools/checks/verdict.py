@@ -28,8 +28,8 @@ class Verdict:
 def left_out(name, output):
     """Returns the parts that a check left out, each once.
 
-    These are the parts that its output names, and those whose packages aren't there. Whether a module
-    of Python is there, only the check knows.
+    These are the parts that its output names, and those whose packages aren't there. Only the check
+    itself can say so of a module of Python.
     """
     said = list(dict.fromkeys(LEFT_OUT.findall(output)))
     named = {it for _, why in said for it in packages.named_in(name, why)}
