@@ -133,6 +133,13 @@ class Ci(Case):
         self.assertTrue((self.first / "c-part").exists())
         self.assertTrue((self.first / "a-language").exists())
 
+    def test_a_run_goes_on_without_apt_get(self):
+        self.stand_in("apt-get", "echo 'E: Permission denied'\nexit 100")
+        status, verdicts, last, said = self.run_ci(ci="true")
+        wanted = self.but(check_kernel="left out: emulator")
+        self.assertEqual((0, wanted, "9 passed, 0 failed, 1 skipped"), (status, verdicts, last))
+        self.assertIn("tools/packages: apt-get update failed:\nE: Permission denied\n", said)
+
     def test_a_part_left_out_with_its_packages_installed_fails_where_they_are_to_be(self):
         self.stand_in("emulate", "exit 0")
         self.stub("check_run", "echo 'check_run: left out test_go: a-language isn'\"'t installed\"")
@@ -151,10 +158,11 @@ class Ci(Case):
         self.assertIn(part, self.parts(said))
 
     def test_a_part_left_out_for_another_reason_is_named_and_passes(self):
-        self.stub("check_c", f"{KEEPS}\necho 'check_c: left out: reads of the TSC: no TSC'")
+        why = "no TSC, and part-of-c has none"
+        self.stub("check_c", f"{KEEPS}\necho 'check_c: left out: reads of the TSC: {why}'")
         status, verdicts, last, said = self.run_ci(ci="true")
         self.assertEqual((0, self.but(), "10 passed, 0 failed"), (status, verdicts, last))
-        self.assertEqual(["reads of the TSC: no TSC"], self.parts(said))
+        self.assertEqual([f"reads of the TSC: {why}"], self.parts(said))
 
     def test_a_check_that_fails_is_named_and_counted(self):
         self.stand_in("emulate", "exit 0")

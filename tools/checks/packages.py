@@ -73,11 +73,15 @@ def missing(check, is_needed_only=False):
 
 
 def named_in(check, reason):
-    """Returns the packages of a check that a reason names, also as "PROGRAM isn't installed"."""
-    words = set(reason.replace(",", " ").split())
-    program, is_program, _ = pathlib.Path(reason).name.partition(" isn't installed")
-    return list(dict.fromkeys(it.package for it in of(check) if it.package in words
-                              or is_program and pathlib.Path(it.found_by).name == program))
+    """Returns the packages of a check that a reason names, or none if it is another reason.
+
+    A reason is a list of packages, or "NAME isn't installed" with a package or its program.
+    """
+    program, is_program, _ = reason.partition(" isn't installed")
+    names = [pathlib.Path(program).name] if is_program else reason.split()
+    listed = {pathlib.Path(it.found_by).name: it.package for it in of(check)}
+    listed |= {it.package: it.package for it in of(check)}
+    return [listed[it] for it in names] if set(names) <= set(listed) else []
 
 
 def apt_get(*words):
