@@ -201,6 +201,15 @@ class Ci(Case):
         names = [it[:16].strip() for it in times]
         self.assertEqual([*CHECKS[:-1], ".ci/run"], names)
 
+    def check_ended(self, file):
+        """The process whose number is in a file has ended, or does so within a minute."""
+        process = pathlib.Path("/proc", file.read_text(encoding="utf-8").strip(), "exe")
+        for _ in range(600):
+            if not process.exists():
+                return
+            time.sleep(0.1)
+        self.fail(f"{process} is there")
+
     def test_an_end_from_outside_ends_all_that_was_started(self):
         started = self.room / "started"
         self.stub("check_using", f"sleep 3600 & echo $! >{started}.using\nwait")
@@ -216,14 +225,14 @@ class Ci(Case):
             ran.send_signal(signal.SIGTERM)
             self.assertEqual(130, ran.wait(60))
         for file in files:
-            self.assertFalse(pathlib.Path("/proc", file.read_text().strip(), "exe").exists())
+            self.check_ended(file)
         self.assertEqual([], list(self.room.glob("ci-*")))
 
     def test_what_a_check_leaves_behind_is_ended(self):
         left = self.room / "left"
         self.stub("check_run", f"sleep 3600 & echo $! >{left}")
         self.assertEqual(0, self.run_ci()[0])
-        self.assertFalse(pathlib.Path("/proc", left.read_text().strip(), "exe").exists())
+        self.check_ended(left)
 
     def test_other_arguments_are_refused(self):
         status, said, errors = self.run_tool(".ci/run", "--instal1", top=self.top)
