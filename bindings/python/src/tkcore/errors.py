@@ -33,7 +33,7 @@ class Error(Exception):
             f"{least}" if least == most else f"{least} to {most}")
 
     def __reduce__(self) -> Any:
-        return type(self), (self.what, self.value, self.range)
+        return type(self), (self.what, self.value, self.range), self.__dict__.copy()
 
 
 class Refused(Error):
