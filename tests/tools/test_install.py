@@ -49,16 +49,32 @@ class Install(Case):
         self.check(PROGRAM + LIBRARY + LICENCES)
         self.assertEqual(0o755, (self.prefix / "bin/tkcore").stat().st_mode & 0o777)
 
+    def build_run(self):
+        self.build(name for name in RUN if not name.startswith("share/doc"))
+
     def test_tkrun_too(self):
         self.build(["bin/tkcore"])
         self.build_library()
-        self.build(["bin/tkrun", "lib/libtkrun.so", "share/man/man1/tkrun.1"])
+        self.build_run()
         self.check(PROGRAM + LIBRARY + RUN + LICENCES)
 
-    def test_the_library_without_tkrun(self):
+    def test_the_library_with_tkrun_and_without_the_program(self):
         self.build_library()
-        self.build(["bin/tkrun", "lib/libtkrun.so", "share/man/man1/tkrun.1"])
-        self.check(LIBRARY + LICENCES, "--library")
+        self.build_run()
+        self.check(LIBRARY + RUN + LICENCES, "--library")
+
+    def test_the_program_with_tkrun_and_without_the_library(self):
+        self.build(["bin/tkcore"])
+        self.build_run()
+        self.check(PROGRAM + RUN + LICENCES)
+
+    def test_tkrun_is_not_the_library(self):
+        self.build_run()
+        status, said, errors = self.run_tool("tools/install", "--library", str(self.prefix),
+                                             top=self.top)
+        self.assertEqual((1, ""), (status, said))
+        self.assertIn("the library isn't built", errors)
+        self.assertFalse(self.prefix.exists())
 
     def test_nothing_is_installed_before_it_is_built(self):
         for words in [], ["--library"]:
