@@ -12,7 +12,7 @@ use std::process::Command;
 const WANTED: &str = "0.2.";
 
 fn main() -> Result<(), Box<dyn Error>> {
-    for name in ["TKCORE_DIR", "PKG_CONFIG_PATH", "PKG_CONFIG_LIBDIR"] {
+    for name in ["DOCS_RS", "TKCORE_DIR", "PKG_CONFIG_PATH", "PKG_CONFIG_LIBDIR"] {
         println!("cargo:rerun-if-env-changed={name}");
     }
     if env::var_os("DOCS_RS").is_some() {
