@@ -1,4 +1,4 @@
-#!/usr/bin/env python3
+#!/usr/bin/python3
 # SPDX-License-Identifier: MIT OR Apache-2.0
 """Writes the stored trace of perf as CTF, and compares the times that babeltrace2 prints for it by
 the plugin of examples/babeltrace2 with those of the definitions, across a step, a frequency, a tick

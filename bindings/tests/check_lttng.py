@@ -1,4 +1,4 @@
-#!/usr/bin/env python3
+#!/usr/bin/python3
 # SPDX-License-Identifier: MIT OR Apache-2.0
 """Records events of a program by LTTng, and compares the times that babeltrace2 prints for the
 trace by the plugin of examples/babeltrace2: with babeltrace2's own while the script has no
