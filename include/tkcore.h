@@ -774,9 +774,10 @@ enum tkc_code tkc_ntp_open_at(struct tkc_ntp *out, const struct tkc_counter *cou
  *   TKC_FULL     the front is 2^63 - 1 or more
  *   TKC_ASLEEP   the clocks are asleep
  *   TKC_INVALID  the reading is above 2^bits - 1
- *   TKC_BEHIND   the reading is behind the last command's, the beginning of the present second, or
- *                the last request with modes and without TKC_ADJ_ADJTIME
+ *   TKC_BEHIND   the reading is behind the last command's
  *   TKC_RANGE    a clock would be at or past its limit
+ *   TKC_BEHIND   the reading is behind the beginning of the present second, or the last request
+ *                with modes and without TKC_ADJ_ADJTIME
  */
 TKC_MUST_CHECK
 enum tkc_code tkc_ntp_advance(struct tkc_ntp *ntp, uint64_t reading);

@@ -258,12 +258,13 @@ static inline void tkc_page_snapshot_words(uint64_t *words, const struct tkc_sna
 	words[TKC_LATCH_WORDS + 1] = 0;
 }
 
-/* Makes a page. Its layout is 0 until all else is stored. */
+/* Makes a page, and writes all its bytes. Its layout is 0 until all else is stored. */
 static inline void tkc_page_init_words(struct tkc_page *page, const uint64_t *words)
 {
 	TKC_STORE(&page->layout, 0, relaxed);
 	TKC_FENCE(release);
 	tkc_words_store(page->copies[0], words, TKC_PAGE_WORDS);
+	tkc_words_store(page->copies[1], words, TKC_PAGE_WORDS);
 	TKC_STORE(&page->sequence, 0, relaxed);
 	TKC_STORE(&page->layout, TKC_PAGE_LAYOUT, release);
 }

@@ -1,5 +1,5 @@
 /* SPDX-License-Identifier: MIT OR Apache-2.0 */
-/* Saves steered clocks as words with their counter, and loads them. */
+/* Saves steered clocks as words with their counter, loads them, and advances loaded ones. */
 #include "worked_rows.h"
 
 /* A word of saved steered clocks, in its place, and the code of a load. */
@@ -151,6 +151,53 @@ static void try_pairs(void)
 	load(words, TKC_OK);
 }
 
+/* A reading of the clocks of `late`, and the code of a call there. */
+struct late_reading {
+	uint64_t reading;
+	uint32_t code;
+};
+
+/* MONOTONIC reaches its limit at the reading 7 + 946080000 s, before the reading 2^60 up
+ * to which the lag is accounted for. The test of the last command and that of the limit come
+ * before that of the account. */
+static const struct late_reading late_readings[] = {
+	{ 7, TKC_BEHIND },
+	{ 946079999999999999, TKC_BEHIND },
+	{ 946080000000000006, TKC_BEHIND },
+	{ 946080000000000007, TKC_RANGE },
+	{ (UINT64_C(1) << 60) - 1, TKC_RANGE },
+	{ UINT64_C(1) << 60, TKC_RANGE },
+	{ 6, TKC_BEHIND },
+	{ (UINT64_C(1) << 63) + 7, TKC_BEHIND },
+};
+
+/* Returns the clocks of `steered` with readings of 64 bits, whose lag is accounted for up to
+ * the reading 2^60. */
+static struct tkc_ntp late(void)
+{
+	uint64_t words[TKC_NTP_SAVED_WORDS];
+	struct tkc_ntp ntp;
+
+	memcpy(words, steered_words, sizeof(words));
+	words[10] = 64;
+	words[32] = UINT64_C(1) << 60;
+	check(!tkc_ntp_load(&ntp, words));
+	return ntp;
+}
+
+/* No refused call changes the clocks. */
+static void try_late_reading(const struct late_reading *row)
+{
+	struct tkc_timex timex = { .modes = 0 };
+	struct tkc_ntp ntp = late(), before = ntp;
+	uint32_t state;
+
+	check(tkc_ntp_advance(&ntp, row->reading) == row->code);
+	check(tkc_ntp_apply(&ntp, row->reading, TKC_CMD_UPDATE, 0, 0) == row->code);
+	check(tkc_adjtimex(&timex, &state, &ntp, row->reading) == row->code);
+	check(!memcmp(&ntp, &before, sizeof(ntp)));
+}
+
 void try_saved_ntp(void)
 {
 	struct tkc_ntp ntp = steered();
@@ -162,4 +209,5 @@ void try_saved_ntp(void)
 	load(words, TKC_OK);
 	try_each(saved_ntp_words, try_saved_word);
 	try_pairs();
+	try_each(late_readings, try_late_reading);
 }

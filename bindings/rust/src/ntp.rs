@@ -216,7 +216,9 @@ impl SteeredClock {
     ///
     /// # Errors
     ///
-    /// In this order: `Full`, `Asleep`, `Invalid`, `Behind`, `Range`. Nothing has changed then.
+    /// In this order: `Full`; `Asleep`; `Invalid`; `Behind`, if the reading is behind the last
+    /// command's; `Range`; `Behind`, if it is behind the beginning of the present second or the
+    /// last request with modes. Nothing has changed then.
     #[inline]
     pub fn advance(&mut self, reading: u64) -> Result<(), Refusal> {
         sys::ntp_advance(&mut self.value, reading).map_err(Refusal::of_code)

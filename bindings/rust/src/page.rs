@@ -92,7 +92,11 @@ impl<'a> Page<'a> {
     /// `BadMemory` if there are fewer words.
     pub fn create(memory: &'a [AtomicU64], first: &impl Publish) -> Result<Page<'a>, Refusal> {
         let shared = Shared::over(memory)?;
-        shared.init(LAYOUT, || shared.store(0, &first.page_words()));
+        let words = first.page_words();
+        shared.init(LAYOUT, || {
+            shared.store(0, &words);
+            shared.store(1, &words);
+        });
         Ok(Page { shared })
     }
 

@@ -1,5 +1,5 @@
 -- Steered clocks are loaded from the words of their clocks and of their numbers.
-use Rattle.std.proofs.Common.{rules, arith, ◌≡◌, ◌⊎◌, ℕ, ◌+◌, ◌≤◌, refl, Some, None, Ok, List, ◌++◌, length, take, drop, inl, inr, append-nil}
+use Rattle.std.proofs.Common.{arith, ◌≡◌, ◌⊎◌, ℕ, ◌≤◌, refl, Some, None, Ok, List, ◌++◌, length, take, drop, inl, inr, append-nil}
 use Rattle.std.proofs.lemmas.List.{take_at, drop_at, drop-drop, drop_all}
 use Rattle.std.specs.Prelude.{MatchOption, Option}
 use Rattle.tk_counter.specs.Counter.{Counter, IsCounter}

@@ -1,5 +1,5 @@
 -- The fields that are written to C's storage for a value.
-use Rattle.std.specs.Prelude.{ℕ, ◌/◌, ◌%◌, unsigned_abs, if◌then◌else◌}
+use Rattle.std.specs.Prelude.{ℕ, ◌/◌, ◌%◌, unsigned_abs, if◌then◌else◌, ◌∷◌, []}
 use Rattle.tk_counter.specs.Counter.{Counter, second}
 use Rattle.tk_clock.specs.Snapshot.{Snapshot}
 use Rattle.tk_clock.specs.State.{ReadBase, State}
@@ -23,7 +23,7 @@ counter_storage counter = record {
 }
 
 -- the numbers needed to read the clocks; an amount is written as seconds, and units of 2^-shift
--- nanoseconds below a second
+-- nanoseconds below a second; the padding is 0, so every byte is written
 abbrev pub base_storage : ReadBase → BaseStorage
 base_storage base = record {
   counter = counter_storage base.counter;
@@ -37,6 +37,7 @@ base_storage base = record {
   boot_offset = unsigned_abs base.boot_offset;
   tai = unsigned_abs base.tai;
   asleep = if base.asleep then 1 else 0;
+  padding = 0 ∷ 0 ∷ 0 ∷ [];
 }
 
 -- a snapshot

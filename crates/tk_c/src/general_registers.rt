@@ -8,10 +8,10 @@
 //! `tests/c/sse_calls` prints the calls of a library that use SSE registers. `tools/check_c` fails
 //! if the rattle backend's library has others than include/tkcore.h says.
 ghost use Rattle.std.specs.Prelude.{◌≡◌, ◌++◌, take};
-ghost use Rattle.tk_c.specs.Storage.{snapshot_storage};
+ghost use Rattle.tk_c.specs.Storage.{base_storage, snapshot_storage};
 
 use crate::saved::SAVED_WORDS;
-use crate::storage::{CounterStorage, SnapshotStorage};
+use crate::storage::{BaseStorage, CounterStorage, SnapshotStorage};
 use tk_clock::{SNAPSHOT_WORDS, Snapshot};
 
 /// Writes a snapshot, one field at a time and never two neighbours in sequence.
@@ -20,17 +20,26 @@ pub(crate) fn store_snapshot(out: &mut SnapshotStorage, snapshot: Snapshot)
     ensures { out.new ≡ snapshot_storage snapshot }
 {
     out.front = snapshot.front();
-    out.base.counter = CounterStorage::from(snapshot.desc());
-    out.base.last = snapshot.last();
-    out.base.mult = snapshot.mult();
-    out.base.sec = snapshot.sec();
-    out.base.raw_sec = snapshot.raw_sec();
-    out.base.boot_offset = snapshot.boot_offset();
-    out.base.real_offset = snapshot.real_offset();
-    out.base.frac = snapshot.frac();
-    out.base.raw_frac = snapshot.raw_frac();
-    out.base.tai = snapshot.tai();
-    out.base.asleep = u8::from(snapshot.asleep());
+    store_base(&mut out.base, &snapshot);
+}
+
+/// Writes the part that reads use, one field at a time and never two neighbours in sequence.
+#[inline(always)]
+pub(crate) fn store_base(out: &mut BaseStorage, snapshot: &Snapshot)
+    ensures { out.new ≡ base_storage snapshot.now.base }
+{
+    out.counter = CounterStorage::from(snapshot.desc());
+    out.last = snapshot.last();
+    out.mult = snapshot.mult();
+    out.sec = snapshot.sec();
+    out.raw_sec = snapshot.raw_sec();
+    out.boot_offset = snapshot.boot_offset();
+    out.real_offset = snapshot.real_offset();
+    out.frac = snapshot.frac();
+    out.raw_frac = snapshot.raw_frac();
+    out.tai = snapshot.tai();
+    out.asleep = u8::from(snapshot.asleep());
+    out.padding = [0; 3];
 }
 
 /// Loads ten words, and computes every second one anew.

@@ -11,7 +11,7 @@
 //! | `CountedClock` | the clocks with their count of commands, `struct tkc_clock` in C |
 //! | `CountedNtp`, `NtpStorage` | steered clocks with their count of calls, `struct tkc_ntp` in C |
 //! | `KernelTimex` | a request and its reply, `struct tkc_timex` in C |
-//! | `CounterStorage`, `ClockStorage`, `SnapshotStorage`, `TimeStorage` | memory that a value is written to |
+//! | `CounterStorage`, `ClockStorage`, `SnapshotStorage`, `DisciplineStorage`, `TimeStorage` | memory that a value is written to |
 //! | `Code` | the codes that calls return |
 //!
 //! Units are the same as in tk_clock; include/tkcore.h states them for C. No call allocates or
@@ -54,7 +54,7 @@ pub use ntp::{
     tkc_adjtimex, tkc_ntp_advance, tkc_ntp_apply, tkc_ntp_next_second, tkc_ntp_open,
     tkc_ntp_open_at, tkc_ntp_snapshot,
 };
-pub use ntp_storage::NtpStorage;
+pub use ntp_storage::{DisciplineStorage, NtpStorage};
 pub use parts::{
     tkc_clock_frequency, tkc_clock_tick, tkc_snapshot_asleep, tkc_snapshot_front, tkc_snapshot_tai,
 };

@@ -16,7 +16,7 @@ use crate::counted::count;
 use crate::counted_ntp::CountedNtp;
 use crate::general_registers::store_snapshot;
 use crate::named::command_named;
-use crate::ntp_storage::NtpStorage;
+use crate::ntp_storage::{NtpStorage, store_ntp};
 use crate::reached::unreached;
 use crate::storage::SnapshotStorage;
 use crate::timex::{KernelTimex, state_number};
@@ -101,7 +101,7 @@ fn write_opened(out: &mut NtpStorage, opened: Result<SteeredClock, Refusal>) -> 
 {
     match opened {
         Ok(steered) => {
-            *out = NtpStorage::from(CountedNtp { steered, front: 0 });
+            store_ntp(out, &CountedNtp { steered, front: 0 });
             Code::Done.number()
         }
         Err(refusal) => Code::from(refusal).number(),
@@ -112,8 +112,8 @@ fn write_opened(out: &mut NtpStorage, opened: Result<SteeredClock, Refusal>) -> 
 ///
 /// # Errors
 ///
-/// Returns `Code::Full` if 2^63 - 1 calls were accepted, or the code of the reading's refusal:
-/// `Asleep`, `Invalid`, `Behind` or `Range`. Nothing changes then.
+/// Returns `Code::Full` if 2^63 - 1 calls were accepted, or the code of the reading's refusal, in the
+/// order of `SteeredClock::advance`. Nothing changes then.
 #[unsafe(no_mangle)]
 pub extern "C" fn tkc_ntp_advance(ntp: &mut CountedNtp, reading: u64) -> u32
     ensures { IsAdvancedTo ntp.old reading result ntp.new }

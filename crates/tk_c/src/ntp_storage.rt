@@ -1,15 +1,55 @@
 //! Describes the memory that steered clocks are written to.
 ghost use Rattle.std.specs.Prelude.{◌≡◌};
-ghost use Rattle.tk_c.specs.NtpStorage.{ntp_storage};
+ghost use Rattle.tk_c.specs.NtpStorage.{ntp_storage, discipline_storage};
 
 use crate::counted_ntp::CountedNtp;
+use crate::general_registers::store_base;
 use crate::storage::BaseStorage;
 use std::mem::size_of;
-use tk_ntp::SteeringNumbers;
+use tk_ntp::{DisciplineNumbers, LagNumbers};
 
 const _: () = prove!(size_of::<CountedNtp>() == size_of::<NtpStorage>());
 
+const _: () = prove!(size_of::<DisciplineNumbers>() == size_of::<DisciplineStorage>());
+
 const _: () = prove!(size_of::<NtpStorage>() == 224);
+
+/// Describes the memory that a discipline is written to: `DisciplineNumbers` with its padding, in
+/// the units of its fields.
+#[repr(C)]
+#[derive(Clone, Copy)]
+pub struct DisciplineStorage {
+    /// The parts of a second.
+    pub hz: u32,
+    /// The status.
+    pub status: u32,
+    /// The number of the state of the leap second.
+    pub state: u32,
+    /// 1 if a leap comes, otherwise 0.
+    pub is_due: u8,
+    /// The padding, 0 once a value is written.
+    pub padding: [u8; 3],
+    /// The second of REALTIME whose beginning is the leap, or 0.
+    pub due: u64,
+    /// The phase still to give.
+    pub offset: i64,
+    /// The time constant.
+    pub constant: u32,
+    /// The greatest error.
+    pub maxerror: u32,
+    /// The estimated error.
+    pub esterror: u32,
+    /// The tick that was asked for.
+    pub tick: u32,
+    /// The gain of a second.
+    pub frequency: i64,
+    /// The second of the last offset.
+    pub reftime: u64,
+    /// The rest of `adjtime`.
+    pub adjust: i64,
+    /// The phase of the present second.
+    pub phase: i64,
+}
 
 /// Describes the memory that steered clocks are written to: `struct tkc_ntp`.
 #[repr(C)]
@@ -21,8 +61,10 @@ pub struct NtpStorage {
     pub frequency: i64,
     /// The tick in force, in microseconds.
     pub tick: i64,
-    /// The discipline and the lag.
-    pub steering: SteeringNumbers,
+    /// The discipline.
+    pub ntp: DisciplineStorage,
+    /// The lag.
+    pub lag: LagNumbers,
     /// The length of the present second, in `2^-32` ns.
     pub length: i64,
     /// The second of REALTIME that begins next.
@@ -33,22 +75,42 @@ pub struct NtpStorage {
     pub front: u64,
 }
 
-impl From<CountedNtp> for NtpStorage {
-    ghost from_gives = { λ counted storage. storage ≡ ntp_storage counted.front counted.steered };
+/// Writes steered clocks field by field, so that the call's frame contains no copy of them.
+#[inline(never)]
+pub(crate) fn store_ntp(out: &mut NtpStorage, counted: &CountedNtp)
+    ensures { out.new ≡ ntp_storage counted.now.front counted.now.steered }
+{
+    let clock = counted.steered.clock();
+    let numbers = counted.steered.numbers();
+    store_base(&mut out.base, &clock.snapshot(counted.front));
+    out.frequency = clock.frequency();
+    out.tick = clock.tick();
+    store_discipline(&mut out.ntp, &numbers.steering.ntp);
+    out.lag = numbers.steering.lag;
+    out.length = counted.steered.second_length();
+    out.next = numbers.next;
+    out.mark = numbers.mark;
+    out.front = counted.front;
+}
 
-    fn from(counted: CountedNtp) -> NtpStorage {
-        let CountedNtp { steered, front } = counted;
-        let clock = steered.clock();
-        let numbers = steered.numbers();
-        NtpStorage {
-            base: BaseStorage::from(clock.snapshot(front)),
-            frequency: clock.frequency(),
-            tick: clock.tick(),
-            steering: numbers.steering,
-            length: steered.second_length(),
-            next: numbers.next,
-            mark: numbers.mark,
-            front,
-        }
-    }
+/// Writes the numbers of a discipline.
+#[inline(always)]
+fn store_discipline(out: &mut DisciplineStorage, numbers: &DisciplineNumbers)
+    ensures { out.new ≡ discipline_storage numbers.now }
+{
+    out.hz = numbers.hz;
+    out.status = numbers.status;
+    out.state = numbers.plan.state;
+    out.is_due = numbers.plan.is_due;
+    out.padding = [0; 3];
+    out.due = numbers.plan.due;
+    out.offset = numbers.offset;
+    out.constant = numbers.constant;
+    out.maxerror = numbers.maxerror;
+    out.esterror = numbers.esterror;
+    out.tick = numbers.tick;
+    out.frequency = numbers.frequency;
+    out.reftime = numbers.reftime;
+    out.adjust = numbers.adjust;
+    out.phase = numbers.phase;
 }

@@ -6,7 +6,7 @@ ghost use Rattle.tk_c.specs.SavedNtp.{saved_ntp, counted_with, IsNtpRestored, Is
 use crate::code::Code;
 use crate::counted::CountedClock;
 use crate::counted_ntp::CountedNtp;
-use crate::ntp_storage::NtpStorage;
+use crate::ntp_storage::{NtpStorage, store_ntp};
 use crate::number_words::{NUMBER_WORDS, number_words, numbers_of_words};
 use crate::saved::{SAVED_WORDS, clock_of_words, tkc_clock_save};
 use tk_ntp::{SteeredClock, SteeredNumbers};
@@ -62,7 +62,7 @@ fn restore(out: &mut NtpStorage, first: &[u64; SAVED_WORDS], rest: &[u64; NUMBER
     let Some(ntp) = counted_with(clock, numbers_of_words(rest)) else {
         return Code::BadWords.number();
     };
-    *out = NtpStorage::from(ntp);
+    store_ntp(out, &ntp);
     Code::Done.number()
 }
 

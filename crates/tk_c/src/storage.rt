@@ -57,6 +57,8 @@ pub struct BaseStorage {
     pub tai: u32,
     /// 1 while the clocks are asleep, otherwise 0.
     pub asleep: u8,
+    /// The padding, 0 once a value is written.
+    pub padding: [u8; 3],
 }
 
 /// Describes the memory that a snapshot is written to: `struct tkc_snapshot`.
@@ -123,6 +125,7 @@ impl From<Snapshot> for BaseStorage {
             boot_offset: snapshot.boot_offset(),
             tai: snapshot.tai(),
             asleep: u8::from(snapshot.asleep()),
+            padding: [0; 3],
         }
     }
 }

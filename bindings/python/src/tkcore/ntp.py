@@ -178,7 +178,9 @@ class SteeredClock(Commanded):
     def advance(self, reading: int) -> None:
         """Lets each second of REALTIME up to a reading begin.
 
-        Raises, in this order: Full, Asleep, Invalid, Behind, Range. Nothing has changed then.
+        Raises, in this order: Full; Asleep; Invalid; Behind, if the reading is behind the last
+        command's; Range; Behind, if it is behind the beginning of the present second or the last
+        request with modes. Nothing has changed then.
         """
         code = CALLS.tkc_ntp_advance(byref(self._value), self._reading(reading))
         if code:

@@ -11,5 +11,5 @@ returns-in_default-counted_with c =
 pub returns : goal.returns
 returns c =
     let counted = rw c.numbers_of_words.ensures at c.in-Some-counted_with.ensures in
-    taken c.args.first.now c.args.rest.now c.in-Some.clock c.args.out.now c.from.result _
-    c.in-Some-counted_with.ntp c.in-Some.ensures (sym counted) c.from.ensures c.number-2.ensures
+    taken c.args.first.now c.args.rest.now c.in-Some.clock c.args.out.now c.store_ntp.new.out _
+    c.in-Some-counted_with.ntp c.in-Some.ensures (sym counted) c.store_ntp.ensures c.number-2.ensures

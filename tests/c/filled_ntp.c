@@ -1,0 +1,127 @@
+/* SPDX-License-Identifier: MIT OR Apache-2.0 */
+/* The calls on steered clocks. */
+#include "filled.h"
+
+enum { SECOND = 1000000000 };
+
+static void ntp_open(void *out)
+{
+	struct tkc_counter counter = filled_counter();
+
+	made(tkc_ntp_open(out, &counter, 0, 1483228797, 500000000, 250));
+}
+
+static void ntp_open_at(void *out)
+{
+	struct tkc_counter counter = filled_counter();
+
+	made(tkc_ntp_open_at(out, &counter, 0, 1483228797, 500000000, 3600, 9, 250));
+}
+
+/* The request of an offset, whose other fields are 0. */
+static struct tkc_timex request(uint32_t modes)
+{
+	struct tkc_timex timex;
+
+	memset(&timex, 0, sizeof(timex));
+	timex.modes = modes;
+	timex.offset = 100000000;
+	timex.freq = 65536;
+	timex.status = TKC_STA_PLL | TKC_STA_INS;
+	timex.constant = 6;
+	timex.tick = 10001;
+	timex.sec = 1;
+	timex.sub = 1;
+	return timex;
+}
+
+static struct tkc_timex ask(struct tkc_ntp *ntp, uint64_t reading, uint32_t modes)
+{
+	struct tkc_timex timex = request(modes);
+	uint32_t state;
+
+	made(tkc_adjtimex(&timex, &state, ntp, reading));
+	check(state <= TKC_TIME_ERROR);
+	return timex;
+}
+
+/* Every call, with a leap second that is due. */
+static void ntp_steered(void *out)
+{
+	ntp_open(out);
+	ask(out, 1, TKC_ADJ_NANO | TKC_ADJ_STATUS | TKC_ADJ_OFFSET | TKC_ADJ_TIMECONST);
+	ask(out, 2, TKC_ADJ_FREQUENCY | TKC_ADJ_TICK | TKC_ADJ_MAXERROR | TKC_ADJ_ESTERROR);
+	ask(out, 3, TKC_ADJ_ADJTIME | TKC_ADJ_OFFSET);
+	made(tkc_ntp_advance(out, SECOND));
+}
+
+static void ntp_leapt(void *out)
+{
+	ntp_steered(out);
+	made(tkc_ntp_advance(out, 2 * (uint64_t)SECOND));
+	made(tkc_ntp_advance(out, 9 * (uint64_t)SECOND));
+	ask(out, 9 * (uint64_t)SECOND, TKC_ADJ_SETOFFSET | TKC_ADJ_NANO);
+	ask(out, 10 * (uint64_t)SECOND, TKC_ADJ_TAI);
+}
+
+static void ntp_commanded(void *out)
+{
+	static const uint32_t commands[] = { TKC_CMD_UPDATE, TKC_CMD_STEP, TKC_CMD_FREQ,
+					     TKC_CMD_TAI_OFFSET, TKC_CMD_SUSPEND, TKC_CMD_RESUME };
+
+	ntp_steered(out);
+	for (size_t i = 0; i < COUNT_OF(commands); i++)
+		made(tkc_ntp_apply(out, SECOND + i, commands[i], 6, 0));
+	made(tkc_ntp_apply(out, SECOND + 9, TKC_CMD_TICK, 10001, 0));
+	made(tkc_ntp_apply(out, SECOND + 9, TKC_CMD_SET_TIME, 1700000000, 0));
+	made(tkc_ntp_apply(out, SECOND + 9, TKC_CMD_LEAP, 1, 5));
+}
+
+static void ntp_reply(void *out)
+{
+	struct tkc_timex timex;
+	struct tkc_ntp ntp;
+
+	ntp_steered(&ntp);
+	timex = ask(&ntp, SECOND, 0);
+	memcpy(out, &timex, sizeof(timex));
+}
+
+static void ntp_snapshot(void *out)
+{
+	struct tkc_ntp ntp;
+
+	ntp_leapt(&ntp);
+	make(tkc_ntp_snapshot(out, &ntp));
+}
+
+static void ntp_save(void *out)
+{
+	struct tkc_ntp ntp;
+
+	ntp_leapt(&ntp);
+	make(tkc_ntp_save(out, &ntp));
+}
+
+static void ntp_load(void *out)
+{
+	uint64_t words[TKC_NTP_SAVED_WORDS];
+	struct tkc_ntp ntp;
+
+	ntp_steered(&ntp);
+	make(tkc_ntp_save(words, &ntp));
+	made(tkc_ntp_load(out, words));
+}
+
+const struct filled filled_ntp[] = {
+	{ "ntp_open", ntp_open, sizeof(struct tkc_ntp) },
+	{ "ntp_open_at", ntp_open_at, sizeof(struct tkc_ntp) },
+	{ "ntp_steered", ntp_steered, sizeof(struct tkc_ntp) },
+	{ "ntp_leapt", ntp_leapt, sizeof(struct tkc_ntp) },
+	{ "ntp_commanded", ntp_commanded, sizeof(struct tkc_ntp) },
+	{ "ntp_load", ntp_load, sizeof(struct tkc_ntp) },
+	{ "ntp_save", ntp_save, sizeof(uint64_t[TKC_NTP_SAVED_WORDS]) },
+	{ "ntp_reply", ntp_reply, sizeof(struct tkc_timex) },
+	{ "ntp_snapshot", ntp_snapshot, sizeof(struct tkc_snapshot) },
+	{ NULL, NULL, 0 },
+};
