@@ -312,8 +312,8 @@ struct tkc_ntp {
  * that struct's layout on x86-64, so a program's own may be passed: (struct tkc_timex *)&tx. A call
  * reads and writes no padding. */
 struct tkc_timex {
-	/* Says which of the fields are given, by the bits of enum tkc_adj. Other bits count for
-	 * nothing. A reply leaves it unchanged. */
+	/* Bits of enum tkc_adj: which of the fields the request contains. Other bits have no
+	 * effect. A reply leaves it unchanged. */
 	uint32_t modes;
 	uint32_t modes_padding;
 	/* The offset between the clock and its reference, in ns with TKC_STA_NANO, otherwise in us.
@@ -363,7 +363,7 @@ enum tkc_adj {
 	 * 0x2000 (TKC_ADJ_NANO) the call only reads it. */
 	TKC_ADJ_ADJTIME = 0x8000,
 	TKC_ADJ_STATUS = 0x0010,
-	/* Offsets and times count in ns, or in us. With both bits they count in us. */
+	/* Sets the unit of offsets and times: ns, or us. With both bits it is us. */
 	TKC_ADJ_NANO = 0x2000,
 	TKC_ADJ_MICRO = 0x1000,
 	/* freq is within 140737488355 in either direction, and takes effect up to 500 ppm. */
@@ -371,20 +371,21 @@ enum tkc_adj {
 	/* The errors are clamped to 0 to 16000000. */
 	TKC_ADJ_MAXERROR = 0x0004,
 	TKC_ADJ_ESTERROR = 0x0008,
-	/* The time constant, which is clamped to 0 to 10. If offsets count in us, it is 4
-	 * more, at most 10. */
+	/* The time constant, which is clamped to 0 to 10. Without TKC_STA_NANO, 4 is added, and the
+	 * sum is clamped to 10. */
 	TKC_ADJ_TIMECONST = 0x0020,
-	/* The TAI offset, 0 to 100000. Any other number changes nothing. */
+	/* The TAI offset, 0 to 100000. Any other number changes nothing, and the present offset
+	 * needs no command. */
 	TKC_ADJ_TAI = 0x0080,
 	/* The offset, clamped to half a second in either direction. It acts only with
-	 * TKC_STA_PLL. */
+	 * TKC_STA_PLL; without it, only the rate is set again. */
 	TKC_ADJ_OFFSET = 0x0001,
 	/* The tick, 9000 to 11000. */
 	TKC_ADJ_TICK = 0x4000
 };
 
 /* The bits of a status (STA_PLL ..). TKC_ADJ_STATUS doesn't change the bits 0xff00, except that
- * turning TKC_STA_PLL off clears them. All other bits become those that are given. */
+ * turning TKC_STA_PLL off clears them. It sets all other bits to those of the request. */
 enum tkc_sta {
 	/* Offsets steer the clock. */
 	TKC_STA_PLL = 0x0001,
@@ -401,7 +402,7 @@ enum tkc_sta {
 	TKC_STA_FREQHOLD = 0x0080,
 	/* The clock's hardware is at fault. The library never sets it. */
 	TKC_STA_CLOCKERR = 0x1000,
-	/* Offsets and times count in ns. */
+	/* Offsets and times are in ns. */
 	TKC_STA_NANO = 0x2000,
 	/* The last offset steered by the FLL. */
 	TKC_STA_MODE = 0x4000
@@ -479,8 +480,8 @@ void tkc_counter_numbers(uint32_t *bits, uint32_t *mult, uint32_t *shift,
 
 /*
  * Returns the cycles from one reading to a later one: to - from, modulo 2^bits. Both may be any
- * numbers, since bits above the counter's don't count (clocksource_delta without its test: more
- * than half of 2^bits - 1 cycles lead back).
+ * numbers: bits above the counter's are ignored (clocksource_delta without its test: more than half
+ * of 2^bits - 1 cycles lead back).
  */
 TKC_PURE
 uint64_t tkc_counter_gap(const struct tkc_counter *counter, uint64_t from, uint64_t to);
@@ -489,7 +490,7 @@ uint64_t tkc_counter_gap(const struct tkc_counter *counter, uint64_t from, uint6
  * Returns the nanoseconds of any number of cycles at the counter's own rate:
  * cycles * mult / 2^shift, rounded down, or 2^64 - 1 if they are more (clocksource_cyc2ns in
  * include/linux/clocksource.h, which drops the upper bits of a product beyond 2^64). The clocks'
- * frequency and tick don't count.
+ * frequency and tick have no effect.
  */
 TKC_PURE
 uint64_t tkc_counter_nanos(const struct tkc_counter *counter, uint64_t cycles);
@@ -725,9 +726,9 @@ TKC_MUST_CHECK
 enum tkc_code tkc_clock_load(struct tkc_clock *out, const uint64_t words[TKC_SAVED_WORDS]);
 
 /*
- * The clocks of a tkc_ntp are steered by a discipline, as the kernel's are by adjtimex(2): requests
- * give it offsets, frequencies and leap seconds, and it gives each second of REALTIME its length.
- * docs/NTP.md says how to steer by it, and lists the differences from Linux.
+ * The clocks of a tkc_ntp are steered by a discipline, as the kernel's clocks are by adjtimex(2).
+ * Requests pass it offsets, frequencies and leap seconds, and it decides how long each second of
+ * REALTIME lasts. docs/NTP.md says how to use it, and lists the differences from Linux.
  *
  * tkc_ntp_advance, tkc_adjtimex and, except for RESUME, tkc_ntp_apply first advance to their
  * reading: each second of REALTIME that has begun since the last call begins at its own reading,
@@ -737,9 +738,10 @@ enum tkc_code tkc_clock_load(struct tkc_clock *out, const uint64_t words[TKC_SAV
  * Readers in other threads should get a new snapshot for each second: set a timer to
  * tkc_ntp_next_second.
  *
- * A call gives the clocks a command only if their rate, their time or the TAI offset changes. So
- * apply TKC_CMD_UPDATE by tkc_ntp_apply at least once in each half of the counter's range. Otherwise
- * a reading counts as behind, and tkc_ntp_next_second finds no reading.
+ * A call issues a command to the clocks only if their rate, their time or the TAI offset changes.
+ * docs/NTP.md, "The exact rate", has the formulas. So apply TKC_CMD_UPDATE with tkc_ntp_apply at
+ * least once in each half of the counter's range. Otherwise a reading is treated as behind, and
+ * tkc_ntp_next_second finds no reading.
  *
  * TKC_BEHIND refuses a reading that is behind the last command, the beginning of the present
  * second, or the last request with modes and without TKC_ADJ_ADJTIME. FREQ and TICK are such

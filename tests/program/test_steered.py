@@ -1,4 +1,6 @@
 """Scripts whose clocks are steered. The worked rows are compared with replies of Linux 6.1.192."""
+import pathlib
+
 from program import OPENING, run
 from test_reports import ReportCase
 from test_scripts import fields, number
@@ -6,6 +8,23 @@ from test_scripts import fields, number
 # 1 ns a cycle, REALTIME half a second after a second, and an hz of 250
 STEERED = "openhz,64,1000000000,600,0,1700000000,500000000,250\n"
 OPEN = "open,64,8388608,23\n"
+
+
+PAGE = pathlib.Path(__file__).resolve().parents[2] / "docs/TKCORE.md"
+HALF_A_SECOND, MOST_GAINED = 500_000_000 * 2**32, 500_000 * 2**32  # as lengths
+NO_LAG = 2**60
+
+
+def continued(mono, real_offset, **given):
+    """A first record that continues steered clocks over a counter of 1 ns a cycle, at the reading 7. The numbers of
+    their discipline that aren't given are those of an opening at an hz of 250."""
+    usual = {"hz": 250, "status": 64, "state": 0, "is_due": 0, "due": 0, "offset": 0, "constant": 2,
+             "maxerror": 16_000_000, "esterror": 16_000_000, "tick": 10_000, "frequency": 0, "reftime": 0, "adjust": 0,
+             "phase": 0, "high": NO_LAG, "low": 0, "next": (mono + real_offset) // 10**9 + 1, "mark": 7}
+    sec, frac = divmod(mono, 10**9)
+    words = [0, 7, 2**24, frac * 2**24, sec, real_offset, 0, 0, frac * 2**24, sec]
+    numbers = [64, 2**24, 24, *words, 0, 10_000, *{**usual, **given}.values()]
+    return ",".join(map(str, ["openwords", *numbers])) + "\n"
 
 
 def request(reading, modes, **given):
@@ -42,6 +61,59 @@ adj,error,1700000005.000000000,0,0,16000000,16000000,8257,6,10000,0,1
 
     def test_a_request_to_other_clocks_is_invalid(self):
         self.check_report(OPENING + request(0, 0), "open,32,16777216,24\nno,invalid\n")
+
+    def test_a_request_to_other_clocks_is_invalid_before_all_tests(self):
+        self.check_report(OPENING + "suspend,5\n" + request(5, 0) + request(4, 0) + request(2**32, 0x80, constant=37),
+                          "open,32,16777216,24\nok,1,0.000000005\nno,invalid\nno,invalid\nno,invalid\n")
+
+    def test_the_present_tai_offset_needs_no_command(self):
+        reply = "adj,error,1700000000.500000,0,0,16000000,16000000,64,2,10000,37,1\n"
+        self.check_report(STEERED + 2 * request(0, 0x80, constant=37) + request(0, 0x80, constant=100_001),
+                          OPEN + 3 * reply)
+
+    def test_the_bounds_of_a_continued_phase(self):
+        page = PAGE.read_text(encoding="utf-8")
+        for name, range_ in [("offset", "half a second divided by HZ, rounded down, in either direction"),
+                             ("phase", "half a second divided by HZ, plus 500 microseconds divided by HZ, both rounded "
+                                       "down, in either direction")]:
+            self.assertRegex(page, rf"(?m)^\| `{name}` .* \| {range_} \|$")
+        for hz in (1, 2, 3, 7, 9, 250, 1_000, 1_023, 1_024):
+            offset, phase = HALF_A_SECOND // hz, HALF_A_SECOND // hz + MOST_GAINED // hz
+            for name, most in [("offset", offset), ("phase", phase)]:
+                for sign in (1, -1):
+                    given = {"hz": hz, name: sign * most}
+                    self.check_report(continued(0, 10**9, **given), "open,64,16777216,24\n")
+                    given[name] += sign
+                    self.check_fault(continued(0, 10**9, **given), "record 1: not a valid opening")
+
+    def test_a_continued_mark_is_any_number(self):
+        self.assertRegex(PAGE.read_text(encoding="utf-8"), r"(?m)^\| `mark` .* \| any; taken modulo 2\^bits \|$")
+        for mark in (0, 6, 7, 2**63, 2**64 - 1):
+            self.check_report(continued(0, 10**9, mark=mark), "open,64,16777216,24\n")
+        # 32 bits: the marks 9 and 2^32 + 9 are the same reading
+        for mark in (9, 2**32 + 9):
+            opening = continued(0, 10**9, mark=mark).replace("openwords,64,", "openwords,32,")
+            self.check_report(opening + "update,8\nupdate,9\n",
+                              "open,32,16777216,24\nno,behind\nok,1,0.000000002\n")
+
+    def test_a_reading_past_a_limit_is_refused_before_the_last_request(self):
+        # MONOTONIC reaches its limit at the reading 7 + 946080000 s, before the mark
+        past = 946_080_000 * 10**9 + 7
+        self.check_report(continued(0, 17 * 10**17, mark=2**60) + "".join(
+            f"update,{reading}\n" + request(reading, 0) for reading in (6, 7, past - 1, past, 2**60 - 1)),
+            "open,64,16777216,24\n" + 6 * "no,behind\n" + 4 * "no,range\n")
+
+    def test_a_refused_leap_leaves_its_state(self):
+        # REALTIME is MONOTONIC, so it can't repeat a second
+        opening = continued(86_397 * 10**9, 0, status=16, state=1, is_due=1, due=86_400, maxerror=0, esterror=0)
+        self.check_report(opening + request(3_000_000_006, 0) + request(3_500_000_007, 0) + "get,3500000007,tai\n"
+                          + request(4_500_000_007, 0), """\
+open,64,16777216,24
+adj,ins,86399.999999,0,0,1000,0,16,2,10000,0,0
+adj,oop,86400.500000,0,0,1500,0,16,2,10000,0,0
+at,tai,86400.500000000
+adj,wait,86401.500000,0,0,2000,0,16,2,10000,0,0
+""")
 
     def test_a_request_has_its_faults(self):
         for record, fault in [("adjtimex,0,0,0,0,0,0,0,0,0,0", fields(2)),
