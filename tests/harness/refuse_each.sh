@@ -9,8 +9,13 @@
 # request refused, the program must end with `out of memory` and nothing written, or write the whole
 # output. A report by `many` may also be the line `fault,out of memory`. If its threads are refused
 # from the Nth on, a race or `many` must end with status 1 and one line, or write the whole output,
-# and a trace must write the whole output. N counts up from 1 until a run meets no refusal. A refused
-# request for memory is reported as a thread that can't be started once for each thread.
+# and a trace must write the whole output. N counts up from 1 until a run meets no refusal.
+#
+# Requests are numbered apart: those of the first thread, those inside pthread_create, and those of
+# the other threads. So the Nth request of the first thread is the same one in every run, whatever
+# the schedule. A refused one is reported as a thread that can't be started at most once for each
+# thread that the program starts: the request for the thread's own value. A refused request of
+# another thread is never reported so.
 #
 # It ends with status 1 at the first run that does anything else. It needs gcc and glibc.
 set -u
@@ -28,8 +33,8 @@ cd "$work" || exit 1
 # more requests than any run makes: a loop that gets there has gone wrong
 readonly most=100000
 refused=0 in_place=0 threads=0
-# of one case: how many threads it starts, and how often a request that was not made inside
-# pthread_create was reported as a thread that can't be started
+# of one case: how many threads it starts, and how many requests of the first thread that were not
+# made inside pthread_create were reported as a thread that can't be started
 starts=0 lost_threads=0
 
 # KIND NUMBER INPUT WORDS..: runs the program on these words with this request refused. What it wrote
@@ -42,10 +47,15 @@ run() {
     ended="$? $(cat err)"
 }
 
-# a request for a thread's own value may be reported so, once for each thread, and no other
+# KIND: the first thread's request for a thread's own value may be reported so, once for each thread,
+# and a request inside pthread_create may. No other may.
 count_lost_thread() {
-    [[ $ended = "1 tkcore: $thread" ]] && grep -q memory mark && lost_threads=$((lost_threads + 1))
-    [ "$lost_threads" -le "$starts" ]
+    [[ $ended = "1 tkcore: $thread" ]] || return 0
+    case $1 in
+    REFUSE_FIRST) [ $((++lost_threads)) -le "$starts" ] ;;
+    REFUSE_STARTING) [ "$starts" -gt 0 ] ;;
+    *) false ;;
+    esac
 }
 
 is_whole() {
@@ -70,11 +80,11 @@ each() {
         if ! is_whole && { [ -s out ] || [[ ! $ended =~ ^1\ tkcore:\ ($faults)$ ]]; }; then
             differs "$kind" "$number" "$@"
         fi
-        if [ "$kind" = REFUSE ]; then
-            refused=$((refused + 1))
-            count_lost_thread || differs "$kind" "$number" "$@"
-        else
+        if [ "$kind" = REFUSE_THREADS ]; then
             threads=$((threads + 1)) starts=$number
+        else
+            refused=$((refused + 1))
+            count_lost_thread "$kind" || differs "$kind" "$number" "$@"
         fi
     done
     # without a refusal the output is whole
@@ -82,26 +92,34 @@ each() {
     echo "words '$*': $((number - 1)) refusals by $kind"
 }
 
+# FAULTS INPUT WORDS..: refuses the requests for memory of each kind in turn
+each_request() {
+    local kind
+    for kind in REFUSE_{FIRST,STARTING,OTHERS}; do
+        each "$kind" "$@"
+    done
+}
+
 memory='out of memory' thread='cannot start a thread'
 
 { echo open,32,16777216,24,0,1700000000,0 && yes update,0 | head -n 600; } >3.csv
 printf '%s\n' open,32,16777216,24,0,1700000000,0 '"update",5' get,5,realtime '"tai",9,"37"' >quoted.csv
 for script in 1 2 3 quoted; do
-    each REFUSE "$memory" $script.csv
-    each REFUSE "$memory" $script.csv replay --keep 1
+    each_request "$memory" $script.csv
+    each_request "$memory" $script.csv replay --keep 1
 done
 
 printf '%s\n' open,32,16777216,24,0,1700000000,0 tai,0,37 freq,0,65536000 get,9,tai update,9 >4.csv
 seq 0 99 | sed 's/.*/1,&\n3,&/' >short
 seq 0 199999 | sed 's/.*/2,&/' >long
-each REFUSE "$memory" /dev/null trace tai 4.csv short
-each REFUSE "$memory" /dev/null trace realtime 3.csv short
-each REFUSE "$memory" steered.csv replay
-each REFUSE "$memory" continued.csv replay
-each REFUSE "$memory" /dev/null trace realtime steered.csv short
+each_request "$memory" /dev/null trace tai 4.csv short
+each_request "$memory" /dev/null trace realtime 3.csv short
+each_request "$memory" steered.csv replay
+each_request "$memory" continued.csv replay
+each_request "$memory" /dev/null trace realtime steered.csv short
 seq 0 99 | sed 's/.*/"2",&/' >quoted
-each REFUSE "$memory" /dev/null trace tai quoted.csv quoted
-each REFUSE "$memory" /dev/null trace tai 4.csv long
+each_request "$memory" /dev/null trace tai quoted.csv quoted
+each_request "$memory" /dev/null trace tai 4.csv long
 # no fault is allowed: where no thread starts, one thread converts it all
 each REFUSE_THREADS 'no such fault' /dev/null trace tai 4.csv long
 
@@ -112,7 +130,7 @@ for scripts in 3.csv 5.csv '3.csv 5.csv' '5.csv 6.csv 5.csv'; do
     # shellcheck disable=SC2086
     each REFUSE_THREADS "$thread" /dev/null race 1000 $scripts
     # shellcheck disable=SC2086
-    each REFUSE "$memory|$thread" /dev/null race 1000 $scripts
+    each_request "$memory|$thread" /dev/null race 1000 $scripts
 done
 each REFUSE_THREADS "$thread" /dev/null many 2 1.csv 2.csv
 each REFUSE_THREADS "$thread" /dev/null many 3 1.csv 2.csv 3.csv
@@ -124,22 +142,28 @@ printf 'file,0\n%s\nfile,1\n%s\n' "$first" "$second" >whole
 printf 'file,0\n%s\nfile,1\n%s\n' "$lost" "$second" >faulty1
 printf 'file,0\n%s\nfile,1\n%s\n' "$first" "$lost" >faulty2
 printf 'file,0\n%s\nfile,1\n%s\n' "$lost" "$lost" >faulty3
+
+# KIND: whether a run of `many` ended as it may
+is_report() {
+    case $ended in
+    '0 ') cmp -s out whole ;;
+    '1 ') { cmp -s out faulty1 || cmp -s out faulty2 || cmp -s out faulty3; } && ((++in_place)) ;;
+    "1 tkcore: $memory" | "1 tkcore: $thread")
+        [ ! -s out ] && ((++refused)) && count_lost_thread "$1"
+        ;;
+    *) false ;;
+    esac
+}
+
 for workers in 1 2; do
     starts=$workers lost_threads=0
-    for number in $(seq 1 $most); do
-        run REFUSE "$number" /dev/null many $workers 1.csv 2.csv
-        [ -e mark ] || break
-        case $ended in
-            '0 ') cmp -s out whole && continue ;;
-            '1 ')
-                cmp -s out faulty1 || cmp -s out faulty2 || cmp -s out faulty3 &&
-                    in_place=$((in_place + 1)) && continue
-                ;;
-            "1 tkcore: $memory" | "1 tkcore: $thread")
-                [ ! -s out ] && refused=$((refused + 1)) && count_lost_thread && continue
-                ;;
-        esac
-        differs REFUSE "$number" many $workers 1.csv 2.csv
+    for kind in REFUSE_{FIRST,STARTING,OTHERS}; do
+        for number in $(seq 1 $most); do
+            run "$kind" "$number" /dev/null many $workers 1.csv 2.csv
+            [ -e mark ] || break
+            is_report "$kind" || differs "$kind" "$number" many $workers 1.csv 2.csv
+        done
+        echo "words 'many $workers 1.csv 2.csv': $((number - 1)) refusals by $kind"
     done
 done
 if [ $refused = 0 ] || [ $in_place = 0 ] || [ $threads = 0 ]; then

@@ -2,11 +2,17 @@
 /* A library that refuses requests of the program into which LD_PRELOAD loads it. The environment
  * says which:
  *
- *   REFUSE=N          the Nth request for memory, counted from 1 over all threads, and no other
- *   REFUSE_THREADS=N  the Nth request for a thread, and every later one
- *   REFUSE_MARK=PATH  the file that is written when a request is refused: `thread` if it was made to
- *                     start a thread, otherwise `memory`. A caller can count N up until a run
- *                     leaves no such file
+ *   REFUSE=N           the Nth request for memory, counted from 1 over all threads, and no other
+ *   REFUSE_FIRST=N     the Nth request for memory that the program's first thread makes outside of
+ *                      pthread_create
+ *   REFUSE_STARTING=N  the Nth request for memory that is made inside pthread_create, by any thread
+ *   REFUSE_OTHERS=N    the Nth other request for memory, over all threads but the first
+ *   REFUSE_THREADS=N   the Nth request for a thread, and every later one
+ *   REFUSE_MARK=PATH   the file that is made when a request is refused. A caller can count N up until
+ *                      a run leaves no such file
+ *
+ * What the other threads do, and when they end, changes no number of REFUSE_FIRST: a pthread_create
+ * asks for less memory if it finds the stack of a thread that has ended.
  *
  * tests/harness/refuse_each.sh and tests/harness/refuse_tests build it. It needs glibc. */
 #define _GNU_SOURCE
@@ -24,15 +30,22 @@ extern void *__libc_realloc(void *block, size_t size);
 
 typedef int pthread_create_fn(pthread_t *, const pthread_attr_t *, void *(*)(void *), void *);
 
-/* The numbers of the refused requests, 0 if none is refused, and how many requests were made. */
-static long refused_request, requests;
+/* The kinds of requests for memory. */
+enum kind { ANY, FIRST, STARTING, OTHERS, KINDS };
+
+static const char *const kind_names[KINDS] = {"REFUSE", "REFUSE_FIRST", "REFUSE_STARTING",
+                                              "REFUSE_OTHERS"};
+
+/* Of each kind, the number of the refused request, 0 if none is refused, and the number of requests
+ * that were made. */
+static long refused[KINDS], requests[KINDS];
 static long first_refused_thread, threads;
 
 static const char *mark;
 static pthread_create_fn *next_pthread_create;
 
-/* Whether this thread is starting another one. */
-static __thread int is_starting;
+/* Whether this thread is the program's first one, and whether it is starting another one. */
+static __thread int is_first, is_starting;
 
 static long number_of(const char *name)
 {
@@ -46,8 +59,11 @@ __attribute__((constructor)) static void read_environment(void)
     next_pthread_create = (pthread_create_fn *)dlsym(RTLD_NEXT, "pthread_create");
     mark = getenv("REFUSE_MARK");
     first_refused_thread = number_of("REFUSE_THREADS");
-    __atomic_store_n(&requests, 0, __ATOMIC_SEQ_CST);
-    refused_request = number_of("REFUSE");
+    is_first = 1;
+    for (int kind = 0; kind < KINDS; kind++) {
+        requests[kind] = 0;
+        refused[kind] = number_of(kind_names[kind]);
+    }
 }
 
 static void leave_mark(void)
@@ -57,13 +73,24 @@ static void leave_mark(void)
     if (!mark)
         return;
     file = open(mark, O_WRONLY | O_CREAT | O_CLOEXEC, 0600);
-    if (file < 0 || write(file, is_starting ? "thread\n" : "memory\n", 7) != 7 || close(file))
+    if (file < 0 || close(file))
         abort();
+}
+
+/* Counts a request, and returns whether it is the refused one of this kind. */
+static int is_refused_of(enum kind kind)
+{
+    long number = __atomic_add_fetch(&requests[kind], 1, __ATOMIC_SEQ_CST);
+
+    return refused[kind] && number == refused[kind];
 }
 
 static int is_refused(void)
 {
-    if (__atomic_add_fetch(&requests, 1, __ATOMIC_SEQ_CST) != refused_request || !refused_request)
+    enum kind kind = is_starting ? STARTING : is_first ? FIRST : OTHERS;
+    int is_one_of_all = is_refused_of(ANY);
+
+    if (!is_refused_of(kind) && !is_one_of_all)
         return 0;
     leave_mark();
     errno = ENOMEM;
