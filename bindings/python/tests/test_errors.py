@@ -31,7 +31,7 @@ def made():
 
 def convert(stamps):
     """Converts stamps, in this process or in a worker."""
-    return list(opened().snapshot().convert(array("Q", stamps)))
+    return list(opened().snapshot().convert(array("Q", stamps), tkcore.ClockId.REALTIME))
 
 
 class Errors(unittest.TestCase):
