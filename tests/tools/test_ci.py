@@ -133,6 +133,14 @@ class Ci(Case):
         self.assertTrue((self.first / "c-part").exists())
         self.assertTrue((self.first / "a-language").exists())
 
+    def test_an_installed_package_that_is_not_found_fails_its_check(self):
+        self.stand_in("apt-get", "exit 0")
+        self.stand_in("dpkg-query", "echo 'installed emulator'")
+        wanted = self.but(check_kernel="left out: emulator")
+        self.assertEqual((0, wanted), self.run_ci()[:2])
+        wanted = self.but(check_kernel="failed: emulator")
+        self.assertEqual((1, wanted), self.run_ci(ci="true")[:2])
+
     def test_a_run_goes_on_without_apt_get(self):
         self.stand_in("apt-get", "echo 'E: Permission denied'\nexit 100")
         status, verdicts, last, said = self.run_ci(ci="true")

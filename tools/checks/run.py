@@ -33,7 +33,10 @@ class Run:
     def start(self, name, *command, is_beside=False):
         """Starts a check, unless a package isn't there without which nothing of it runs."""
         if missing := packages.missing(name, is_needed_only=True):
-            self.verdicts[name] = verdict.Verdict(name, "left out", " ".join(missing))
+            # (a package that is installed, but isn't found by what the list says, is a fault there)
+            is_fault = self.is_strict and packages.installed() & set(missing)
+            word = "failed" if is_fault else "left out"
+            self.verdicts[name] = verdict.Verdict(name, word, " ".join(missing))
             return
         self.jobs[name] = Job(command, self.work / name.replace("/", "-"), is_beside)
 
