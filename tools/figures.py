@@ -34,8 +34,11 @@ COUNTS = {
 def rows(text):
     """Returns the rows of the table of times: a job, its baseline, and the ratio."""
     cells = [[cell.strip() for cell in line.strip("|").split("|")]
-             for line in text.partition("| Job ")[2].splitlines() if line.startswith("|")]
-    return [(row[0], row[1], row[4]) for row in cells if len(row) == 7]
+             for line in text.splitlines() if line.startswith("|")]
+    head = next(row for row in cells if row[0] == "Job" and "Ratio" in row)
+    places = [head.index(name) for name in ("Job", "Baseline", "Ratio")]
+    return [tuple(row[it] for it in places) for row in cells[cells.index(head) + 1:]
+            if len(row) == len(head)]
 
 
 def other_ratios(found):
