@@ -1,20 +1,32 @@
 // SPDX-License-Identifier: GPL-2.0
+/*
+ * Clocks for a kernel, over the library of tkcore.h. Copy this file and
+ * clocks.h into a module or a kernel; minimal/ is a module that links the
+ * library.
+ *
+ *  - clocks_open() opens the clocks. The caller chooses the counter.
+ *  - clocks_command() applies a command. Apply an update at least once in each
+ *    half of the counter's range, for example from a timer.
+ *  - clocks_look() stores a snapshot and a reading of the counter, from which
+ *    tkc_snapshot_get() computes any clock's time. clocks_look_fast() does so
+ *    in an NMI too.
+ *
+ * MONOTONIC doesn't go back for callers of clocks_look(), on any processor,
+ * because a command reads the counter while the sequence is odd, and a reader
+ * reads it while the sequence is even and doesn't change.
+ */
 #include "clocks.h"
 
-/* Copies in two halves, so that a trial can interrupt the writer in between. */
+/* Writes copy `which` of the snapshot. Its readers use the other one meanwhile. */
 static void write_copy(struct clocks *clocks, int which)
 {
 	const u64 *from = clocks->snapshot.tkc_private;
 	struct base *copy = &clocks->copies[which];
 	u64 *to = copy->snapshot.tkc_private;
-	size_t count = ARRAY_SIZE(clocks->snapshot.tkc_private);
 
 	WRITE_ONCE(copy->read_counter, clocks->read_counter);
-	for (size_t i = 0; i < count; i++) {
-		if (i == count / 2 && clocks->midway)
-			clocks->midway();
+	for (size_t i = 0; i < ARRAY_SIZE(clocks->snapshot.tkc_private); i++)
 		WRITE_ONCE(to[i], from[i]);
-	}
 }
 
 /* Readers use copy 1 while copy 0 is written, and copy 0 after that. */

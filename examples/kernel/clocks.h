@@ -32,14 +32,12 @@ struct base {
 struct clocks {
 	/*
 	 * The caller sets these before clocks_open(). `notify` is called with
-	 * the lock held after each command, as pvclock_gtod_chain is, and
-	 * `midway` amid the writing of each copy, so that a trial can interrupt
-	 * it. Both may be NULL.
+	 * the lock held after each command, as pvclock_gtod_chain is. It may be
+	 * NULL.
 	 */
 	struct tkc_counter counter;
 	u64 (*read_counter)(void); /* as in struct base */
 	void (*notify)(const struct command *command);
-	void (*midway)(void);
 
 	raw_spinlock_t lock; /* serializes commands; timekeeper_lock */
 	struct tkc_clock clock;

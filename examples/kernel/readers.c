@@ -29,6 +29,7 @@ static DEFINE_PER_CPU(struct hrtimer, softirq_timer);
 static DEFINE_PER_CPU(struct hrtimer, hardirq_timer);
 static DEFINE_PER_CPU(struct task_struct *, reader);
 static bool has_nmi;
+static bool sends_nmi; /* amid each copy of the clocks that readers read */
 static atomic64_t latest; /* MONOTONIC that any reader but an NMI has seen */
 
 static void raise_latest(u64 value)
@@ -170,6 +171,19 @@ static void send_nmi(void)
 	apic->send_IPI(smp_processor_id(), NMI_VECTOR);
 }
 
+/* Interrupts the writer before it stores the middle word of a copy. clocks.o calls this before each
+ * store (stores.h). */
+void trial_stores(const volatile void *to)
+{
+	enum { MIDDLE = ARRAY_SIZE(((struct tkc_snapshot *)0)->tkc_private) / 2 };
+
+	if (!READ_ONCE(sends_nmi))
+		return;
+	for (size_t i = 0; i < ARRAY_SIZE(trial.read->copies); i++)
+		if (to == &trial.read->copies[i].snapshot.tkc_private[MIDDLE])
+			send_nmi();
+}
+
 static void start_timers(void *unused)
 {
 	struct hrtimer *soft = this_cpu_ptr(&softirq_timer);
@@ -205,7 +219,7 @@ bool readers_start(bool with_nmi)
 	if (register_nmi_handler(NMI_LOCAL, read_in_nmi, 0, "tkc"))
 		return false;
 	has_nmi = true;
-	WRITE_ONCE(trial.read->midway, send_nmi);
+	WRITE_ONCE(sends_nmi, true);
 	return true;
 }
 
@@ -214,7 +228,7 @@ void readers_stop(void)
 {
 	int cpu;
 
-	trial.read->midway = NULL;
+	WRITE_ONCE(sends_nmi, false);
 	if (has_nmi) {
 		msleep(20); /* for an NMI that is on its way */
 		unregister_nmi_handler(NMI_LOCAL, "tkc");

@@ -69,6 +69,7 @@ void steer_in_process(void);
 
 /* readers.c: readers in each context. */
 void reader_pause(void);
+void trial_stores(const volatile void *to);
 bool readers_start(bool with_nmi);
 void readers_stop(void);
 bool readers_report(const char *phase);
