@@ -7,7 +7,7 @@ time of the trace's own clock class.
 
 The script describes the trace's clock, and contains a record for each change of the clocks
 (docs/TRACERS.md). If it changes the counter, the trace's clock is its last one. `clock` is the word
-of a clock, realtime if it isn't given. An event's line is
+of a clock, by default realtime. An event's line is
 
     [SECONDS.NANOSECONDS] NAME: PAYLOAD
 

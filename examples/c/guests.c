@@ -1,6 +1,6 @@
 /* SPDX-License-Identifier: MIT OR Apache-2.0 */
-/* Exports a snapshot to a guest's clocks: MONOTONIC as struct pvclock_vcpu_time_info
- * (arch/x86/include/asm/pvclock-abi.h) and TAI by the vmclock ABI (include/uapi/linux/vmclock-abi.h).
+/* For a hypervisor: exports a snapshot to a guest's clocks. MONOTONIC becomes pvclock_vcpu_time_info
+ * (arch/x86/include/asm/pvclock-abi.h), and TAI vmclock_abi (include/uapi/linux/vmclock-abi.h).
  * Both describe a line over a counter of 64 bits, such as the TSC. It compares a million times that
  * a guest computes with the library's, and prints the least and the greatest difference. */
 #include <stdio.h>

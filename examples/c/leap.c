@@ -1,5 +1,5 @@
 /* SPDX-License-Identifier: MIT OR Apache-2.0 */
-/* Inserts a leap second: REALTIME goes back by a second and the TAI offset grows by one, by one
+/* Inserts a leap second: REALTIME goes back by a second and the TAI offset grows by one, in one
  * command. So no snapshot has REALTIME back without the new offset: TAI never goes back. */
 #include <stdio.h>
 #include <tkcore.h>

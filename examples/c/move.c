@@ -4,10 +4,10 @@
  * process is the old host: it suspends the clocks, saves them as words and sends the words. The
  * second process is the new host: it loads the clocks, changes their counter while they are asleep,
  * and resumes them with the time away. BOOTTIME, REALTIME and TAI advance by that time, and
- * MONOTONIC doesn't. The frequency and the TAI offset stay.
+ * MONOTONIC doesn't. The frequency and the TAI offset don't change.
  *
- * Both TSCs are computed from one count of cycles, and the new host's is scaled by 3 / 7. So each
- * run prints the same times.
+ * Both TSCs are computed from one count of cycles, and the new host's TSC is scaled by 3 / 7. So
+ * all runs print equal times.
  */
 #define _POSIX_C_SOURCE 200809L
 #include <inttypes.h>

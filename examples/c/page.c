@@ -10,7 +10,7 @@
  * with a reading later than the next command's reading, and it never sees
  * MONOTONIC go back.
  *
- * The counter here is a word in memory. tests/c/page_tsc.c does the same with
+ * The counter here is a word in memory. tests/c/page_tsc.c does this with
  * the TSC.
  */
 #include <inttypes.h>

@@ -1,7 +1,7 @@
 /* SPDX-License-Identifier: MIT OR Apache-2.0 */
 /* Saves running clocks to a file and loads them again. The file has a line for each of the 15 words
  * of tkc_clock_save, the numbers of the counter among them. The file is replaced by a rename, so a
- * crash leaves the former one or the new one. Any contents give sound clocks or an error.
+ * crash leaves the former one or the new one. Any contents lead to sound clocks or an error.
  *
  *     save FILE
  */
@@ -80,7 +80,7 @@ int main(int argc, char **argv)
 	}
 	if (load(argv[1], &loaded) || memcmp(&clock, &loaded, sizeof(clock)))
 		return 1;
-	/* the machine was off for an hour, and its counter began at 0 again */
+	/* the machine was off for an hour, and its counter started at 0 again */
 	if (tkc_clock_resume(&loaded, 0, 3600, 0))
 		return 1;
 	tkc_clock_snapshot(&snapshot, &loaded);

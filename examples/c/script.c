@@ -158,7 +158,7 @@ static bool parse_start(const struct field *fields, struct opening *opening)
 	       parse_u32(&fields[2], &opening->nsec);
 }
 
-/* Does the same with the numbers of running clocks. */
+/* Parses the numbers of running clocks instead. */
 static bool parse_words(const struct field *fields, struct opening *opening)
 {
 	for (size_t i = 0; i < TKC_WORDS; i++) {

@@ -1,10 +1,10 @@
 /* SPDX-License-Identifier: MIT OR Apache-2.0 */
 /*
- * Parses the scripts of tkcore. A script begins with an opening; each row after
+ * Parses the scripts of tkcore. A script starts with an opening; each row after
  * it is a command or a read of a clock. crates/tk_script/README.md describes the
  * format. The records `counter` and `adjtimex` are faults here, and so is an
  * opening with HZ or with the numbers of a discipline. A program that parses
- * these itself gives the other records to script_open and script_row.
+ * these itself passes the other records to script_open and script_row.
  */
 #ifndef SCRIPT_H
 #define SCRIPT_H
@@ -50,12 +50,12 @@ bool script_parse(struct script *script, char *text, size_t length,
 		  struct fault *fault);
 void script_free(struct script *script);
 
-/* Open the clocks by the first record, and parse a later one. They return a fault,
+/* Open the clocks with the first record, and parse a later one. They return a fault,
  * or NULL. */
 const char *script_open(struct script *script, const struct record *record);
 const char *script_row(const struct record *record, struct row *row);
 
-/* Returns the word by which a script names a clock. */
+/* Returns the word with which a script names a clock. */
 const char *script_clock_word(uint32_t clock);
 
 #endif

@@ -6,15 +6,15 @@
 
 FOLDER contains the files of make.py. TABLE is a folder without a table, which gets the files
 00000.npy, 00001.npy, ..: rows of TAI in ns, the number of the machine, and the event. All rows of a
-file are before those of the next one. A file has about ROWS rows, 4,000,000 if it isn't given. N is
-the number of processes on this machine, 2 if it isn't given; 0 converts in this process without
-Dask. With ADDRESS, the workers of that scheduler must see both folders.
+file are before the rows of the next one. A file has about ROWS rows, by default 4,000,000. N is the
+number of processes on this machine, by default 2; 0 converts in this process without Dask. With
+ADDRESS, the workers of that scheduler must see both folders.
 
 One machine's stamps are one task, and one file of the table is another. A task writes its file
 under another name first, and returns only a few numbers. So Dask can repeat the tasks of a worker
-that died, and nothing is lost. A stamp takes 8 bytes of the disk until the table is whole, and 12
-in the table. The program prints the greatest disagreement between machines that saw the same event:
-by the clocks as they were opened, and by the journals.
+that died, and no stamp is lost. A stamp takes 8 bytes of the disk until the table is whole, and 12
+in the table. The program prints the greatest disagreement between machines that saw one event: with
+the clocks as they were opened, and with the journals.
 
 It ends with status 1 if FOLDER has no machine, or more than 65,536; if a machine has no stamp, or
 saw more than 32,768 events; or if a script, a stamp or a file has a fault.
@@ -125,7 +125,7 @@ def merges(table, done, rows_of_a_file):
 
 
 def disagreement(times):
-    """Returns the greatest difference between machines that saw the same event, in ns."""
+    """Returns the greatest difference between machines that saw one event, in ns."""
     times = numpy.array(times).astype(numpy.int64)
     return int((times.max(axis=0) - times.min(axis=0)).max())
 

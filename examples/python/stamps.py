@@ -8,10 +8,10 @@
     stamps.py ctf SCRIPT <TEXT >STAMPS        TEXT is of babeltrace2 --clock-cycles
 
 `now` opens the clocks at the present reading of MONOTONIC_RAW, in ns, and steers REALTIME as the
-kernel does at present. `clock` opens them at READING, 0 if it isn't given. `perf` and `ctf` write a
-line for each event, in the order of TEXT. Its front is the number of SCRIPT's commands whose
-reading isn't after the stamp, so SCRIPT must have no command that tkcore refuses, and no reading
-that is below the one before it.
+kernel does at present. `clock` opens them at READING, by default 0. `perf` and `ctf` write a line
+for each event, in the order of TEXT. Its front is the number of SCRIPT's commands whose reading
+isn't after the stamp. So SCRIPT must have no command that tkcore refuses, and no reading that is
+below the one before it.
 
 The program ends with status 1 and a line on standard error if it can't read its input, if a stamp
 is before SCRIPT's opening, or if perf's header doesn't say that the events were recorded with
