@@ -30,7 +30,7 @@ enum {
 	LATCH = 2 * (1 + TKC_LATCH_WORDS),
 	COMMAND = BEGIN + PUBLISH + LATCH,
 	TAKEOVER = BEGIN + PUBLISH + TKC_LATCH_WORDS + LATCH,
-	PAGE_INIT = 1 + TKC_PAGE_WORDS + 2,
+	PAGE_INIT = 1 + 2 * TKC_PAGE_WORDS + 2,
 	LATCH_INIT = 1 + 2 * TKC_LATCH_WORDS + 2,
 
 	READERS = 3, /* the last one reads the latch, the others the page */
