@@ -23,6 +23,14 @@ def call(command, **options):
                           check=False, timeout=SECONDS, **options)
 
 
+def host_call(command, text=""):
+    """Runs a program on the host's clocks, which it may not set. Returns its output."""
+    keeps = ["setpriv", "--bounding-set", "-sys_time"] if IS_ROOT else []
+    run = call([*keeps, command], input=text)
+    assert run.returncode == 0, run.stderr
+    return run.stdout
+
+
 def program(name):
     """The path of a program of tests/run."""
     return f"{PROGRAMS}/{name}"
