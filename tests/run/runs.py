@@ -3,6 +3,7 @@ import os
 import pathlib
 import re
 import shutil
+import signal
 import subprocess
 import tempfile
 import unittest
@@ -18,9 +19,19 @@ IS_ROOT = os.geteuid() == 0
 
 
 def call(command, **options):
-    """Runs a command, and returns its status and its texts."""
-    return subprocess.run(command, stdout=subprocess.PIPE, stderr=subprocess.PIPE, text=True,
-                          check=False, timeout=SECONDS, **options)
+    """Runs a command, and returns its status and its texts. If it takes too long, it is ended with
+    all that it has started."""
+    given = options.pop("input", None)
+    if given is not None:
+        options["stdin"] = subprocess.PIPE
+    with subprocess.Popen(command, stdout=subprocess.PIPE, stderr=subprocess.PIPE, text=True,
+                          start_new_session=True, **options) as process:
+        try:
+            texts = process.communicate(given, SECONDS)
+        except subprocess.TimeoutExpired:
+            os.killpg(process.pid, signal.SIGKILL)
+            raise
+    return subprocess.CompletedProcess(command, process.returncode, *texts)
 
 
 def host_call(command, text=""):
