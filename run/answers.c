@@ -178,6 +178,15 @@ static int steer(struct machine *m, const struct seccomp_notif *ask,
 	return answer_put(ask, address, &timex, sizeof(timex));
 }
 
+static int steer_clock(struct machine *m, const struct seccomp_notif *ask,
+		       int64_t *value)
+{
+	int error = machine_adjust_error((clockid_t)ask->data.args[0]);
+
+	return error ? error
+		     : steer(m, ask, "clock_adjtime", ask->data.args[1], value);
+}
+
 static int make_call(struct machine *m, const struct seccomp_notif *ask,
 		     int64_t *value)
 {
@@ -202,9 +211,7 @@ static int make_call(struct machine *m, const struct seccomp_notif *ask,
 	case SYS_adjtimex:
 		return steer(m, ask, "adjtimex", ask->data.args[0], value);
 	case SYS_clock_adjtime:
-		if (ask->data.args[0] != CLOCK_REALTIME)
-			return EOPNOTSUPP;
-		return steer(m, ask, "clock_adjtime", ask->data.args[1], value);
+		return steer_clock(m, ask, value);
 	default:
 		return CALL_HOST;
 	}

@@ -34,6 +34,9 @@ int refuse(int error);
 /* A call that this process has made, for --log. */
 struct logged_call this_call(const char *name, int result);
 
+/* Does what the kernel's settimeofday does. There are clocks. */
+int set_micros(const struct timeval *time, const struct timezone *zone);
+
 /* Notes that a wait is the host's, for tkrun's warning. */
 void note_host(struct machine *m, enum host_wait wait);
 

@@ -35,10 +35,12 @@ EXPORT int ntp_adjtime(struct timex *tx)
 
 EXPORT int clock_adjtime(clockid_t clock, struct timex *tx)
 {
+	int error = machine_adjust_error(clock);
+
 	if (!machine())
 		return REAL(clock_adjtime)(clock, tx);
-	if (clock != CLOCK_REALTIME)
-		return refuse(EOPNOTSUPP);
+	if (error)
+		return refuse(error);
 	return adjust("clock_adjtime", tx);
 }
 

@@ -23,17 +23,21 @@ EXPORT int clock_settime(clockid_t clock, const struct timespec *time)
 	return refuse(EINVAL);
 }
 
-EXPORT int settimeofday(const struct timeval *time, const struct timezone *zone)
+int set_micros(const struct timeval *time, const struct timezone *zone)
 {
-	struct machine *m = machine();
-	int error;
+	int error = machine_set_micros(machine(), time, zone);
 
-	if (!m)
-		return REAL(settimeofday)(time, zone);
-	error = machine_set_micros(m, time, zone);
 	if (time)
 		log_micros(this_call("settimeofday", -error), time);
 	return error ? refuse(error) : 0;
+}
+
+/* The kernel's call sets both, and the C library's refuses that. */
+EXPORT int settimeofday(const struct timeval *time, const struct timezone *zone)
+{
+	if (!machine())
+		return REAL(settimeofday)(time, zone);
+	return time && zone ? refuse(EINVAL) : set_micros(time, zone);
 }
 
 /* glibc has it only for programs that were linked before 2.31. */

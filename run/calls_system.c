@@ -51,8 +51,8 @@ static bool make_set(long number, const long *a, long *result)
 					(const struct timespec *)a[1]);
 		return true;
 	case SYS_settimeofday:
-		*result = settimeofday((const struct timeval *)a[0],
-				       (const struct timezone *)a[1]);
+		*result = set_micros((const struct timeval *)a[0],
+				     (const struct timezone *)a[1]);
 		return true;
 	case SYS_adjtimex:
 		*result = adjtimex((struct timex *)a[0]);

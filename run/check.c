@@ -7,84 +7,15 @@
 #define _GNU_SOURCE
 #include "recording.h"
 #include "signals.h"
+#include "script.h"
 
-#include <fcntl.h>
 #include <inttypes.h>
 #include <limits.h>
 #include <stdio.h>
-#include <stdlib.h>
 #include <string.h>
 #include <sys/wait.h>
-#include <unistd.h>
 
 enum { SHOWN_MOST = 5, LINE_MOST = 256 };
-
-static char tkcore[2 * PATH_MAX];
-
-/* Looks for tkcore in a folder. */
-static bool is_in(const char *folder, size_t length)
-{
-	snprintf(tkcore, sizeof(tkcore), "%.*s/tkcore", (int)length, folder);
-	return !access(tkcore, X_OK);
-}
-
-void find_tkcore(void)
-{
-	const char *next = getenv("PATH");
-	char self[PATH_MAX];
-	ssize_t length = readlink("/proc/self/exe", self, sizeof(self) - 1);
-
-	self[length < 0 ? 0 : length] = 0;
-	if (strrchr(self, '/') &&
-	    is_in(self, (size_t)(strrchr(self, '/') - self)))
-		return;
-	while (next && *next) {
-		size_t part = strcspn(next, ":");
-
-		if (part && is_in(next, part))
-			return;
-		next += part + (next[part] == ':');
-	}
-	fail(STATUS_FAILED,
-	     "--check: tkcore is neither in tkrun's folder nor in PATH");
-}
-
-static void run_tkcore(const char *script, int output)
-{
-	int input = open(script, O_RDONLY);
-
-	if (input < 0)
-		_exit(STATUS_FAILED);
-	dup2(input, 0);
-	dup2(output, 1);
-	signals_restore();
-	execl(tkcore, "tkcore", "replay", "--keep", "1000", NULL);
-	_exit(STATUS_NOT_FOUND);
-}
-
-/* Starts the replay of a part. Returns its report, or NULL. */
-static FILE *replay(const char *script, pid_t *child)
-{
-	FILE *lines;
-	int ends[2];
-
-	if (pipe2(ends, O_CLOEXEC))
-		return NULL;
-	*child = fork();
-	if (*child < 0) {
-		close(ends[0]);
-		close(ends[1]);
-		return NULL;
-	}
-	if (!*child)
-		run_tkcore(script, ends[1]);
-	close(ends[1]);
-	signals_pass_to(*child);
-	lines = fdopen(ends[0], "r");
-	if (!lines)
-		close(ends[0]);
-	return lines;
-}
 
 static const char *refusal_word(uint32_t code)
 {
@@ -113,6 +44,7 @@ struct report {
 	const char *name;
 	char line[LINE_MOST]; /* of the record `record`, which counts from 1 */
 	uint64_t record, differ, *shown;
+	bool is_other; /* the line has a value that the program didn't get */
 };
 
 static uint64_t record_count(const struct part *part)
@@ -151,6 +83,24 @@ static void expect_reply(const struct record_row *row, char *text, size_t size)
 		 asked.reply.tai);
 }
 
+/* Returns whether a row is a read that got a time. */
+static bool is_read(const struct record_row *row)
+{
+	return row && !row->code && !is_request(row) && !is_command(row);
+}
+
+/* Returns whether the line of a read has its clock and its value. A date may follow. */
+static bool has_value(const struct record_row *row, const char *line)
+{
+	char value[LINE_MOST];
+	int length = snprintf(value, sizeof(value), "at,%s,%" PRId64 ".%09" PRIu32,
+			      script_clock_word(row->kind - ROW_READ),
+			      row->number, row->nsec);
+
+	return !strncmp(line, value, (size_t)length) &&
+	       (line[length] == ',' || line[length] == '\n');
+}
+
 /* Stores how the record's line begins if tkcore did the same. */
 static void expect(const struct report *report, char *text, size_t size)
 {
@@ -160,7 +110,7 @@ static void expect(const struct report *report, char *text, size_t size)
 		snprintf(text, size, "no,%s\n", refusal_word(row->code));
 	else if (row && is_request(row))
 		expect_reply(row, text, size);
-	else if (row && !is_command(row))
+	else if (is_read(row))
 		snprintf(text, size, "at,");
 	else
 		snprintf(text, size, row ? "ok," : "open,");
@@ -188,14 +138,17 @@ static void compare_line(struct report *report, const char *line)
 		expect(report, expected, sizeof(expected));
 	if (strncmp(line, expected, strlen(expected)))
 		count_difference(report, expected);
+	else if (is_read(row_of(report)))
+		report->is_other = !has_value(row_of(report), line);
 }
 
-/* Counts a line `differs`, which follows that of its read. */
+/* Counts a line of a read with another value, or a line `differs` after it. */
 static void count_value(struct report *report)
 {
 	const struct record_row *row = row_of(report);
 	char value[LINE_MOST] = "nothing";
 
+	report->is_other = false;
 	if (row)
 		snprintf(value, sizeof(value), "%" PRId64 ".%09" PRIu32,
 			 row->number, row->nsec);
@@ -209,11 +162,15 @@ static void compare(struct report *report, FILE *lines)
 
 	while (report->record <= record_count(report->part) &&
 	       fgets(line, sizeof(line), lines)) {
-		if (strncmp(line, "differs,", 8))
-			compare_line(report, line);
-		else
+		bool is_differs = !strncmp(line, "differs,", 8);
+
+		if (is_differs || report->is_other)
 			count_value(report);
+		if (!is_differs)
+			compare_line(report, line);
 	}
+	if (report->is_other)
+		count_value(report);
 }
 
 /* Returns whether tkcore could be run: env(1) has these statuses, too. */
@@ -255,7 +212,7 @@ static uint64_t check_part(const struct recording *recording, unsigned int part,
 	FILE *lines;
 
 	recording_part(recording, part, script, sizeof(script));
-	lines = replay(script, &child);
+	lines = tkcore_replay(script, &child);
 	if (lines) {
 		compare(&report, lines);
 		fclose(lines);

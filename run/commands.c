@@ -3,6 +3,7 @@
 #define _GNU_SOURCE
 #include "machine.h"
 
+#include "requests.h"
 #include "rows.h"
 
 #include <errno.h>
@@ -207,40 +208,6 @@ enum tkc_code machine_apply(struct machine *machine, const struct order *orders,
 	return code;
 }
 
-/* Records a request, and its reply if it was accepted. One that only reads leaves
- * no separate front. */
-static void record_request(struct machine *machine, const struct timex *in,
-			   const struct timex *out, struct record_row row,
-			   uint32_t state)
-{
-	struct asked_words asked = {
-		.modes = in->modes, .offset = in->offset, .freq = in->freq,
-		.maxerror = in->maxerror, .esterror = in->esterror,
-		.status = in->status, .constant = in->constant,
-		.tick = in->tick, .sec = in->time.tv_sec,
-		.sub = in->time.tv_usec,
-	};
-
-	if (!machine->control->rows.every)
-		return;
-	if (row.kind == ROW_REQUEST && !row.code)
-		rows_steer(&machine->control->rows);
-	if (!row.code) {
-		asked.reply.state = state;
-		asked.reply.sec = out->time.tv_sec;
-		asked.reply.sub = out->time.tv_usec;
-		asked.reply.offset = out->offset;
-		asked.reply.freq = out->freq;
-		asked.reply.maxerror = out->maxerror;
-		asked.reply.esterror = out->esterror;
-		asked.reply.status = out->status;
-		asked.reply.constant = out->constant;
-		asked.reply.tick = out->tick;
-		asked.reply.tai = out->tai;
-	}
-	rows_add_asked(machine, &row, &asked);
-}
-
 /* A refused request has made no step: after one, TAI is far below its limit. */
 enum tkc_code machine_adjust(struct machine *machine, struct timex *timex,
 			     uint32_t *state)
@@ -257,7 +224,7 @@ enum tkc_code machine_adjust(struct machine *machine, struct timex *timex,
 				row.reading);
 	row.front = front_of(row.code || only_reads ? present_clocks(control)
 						    : &changed);
-	record_request(machine, &in, timex, row, *state);
+	rows_add_request(machine, &row, &in, timex, *state);
 	if (!row.code && !only_reads)
 		switch_clocks(machine, &changed);
 	publish(machine);
@@ -277,9 +244,10 @@ int machine_adjtimex(struct machine *machine, struct timex *timex)
 	uint32_t state = 0;
 	sigset_t saved;
 
-	if (!machine->control ||
-	    (!request_only_reads(timex) && machine_denies_set(machine)))
+	if (!machine->control)
 		return -EPERM;
+	if (!request_only_reads(timex) && machine_denies_set(machine))
+		return request_is_faulty(timex) ? -EINVAL : -EPERM;
 	machine_lock(machine, &saved);
 	code = machine_adjust(machine, timex, &state);
 	machine_unlock(machine, &saved);

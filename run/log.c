@@ -2,6 +2,8 @@
 #define _GNU_SOURCE
 #include "log.h"
 
+#include "requests.h"
+
 #include <errno.h>
 #include <fcntl.h>
 #include <signal.h>
@@ -106,12 +108,14 @@ void log_clock(struct logged_call call, clockid_t clock)
 
 void log_request(struct logged_call call, const struct timex *request)
 {
+	struct timex asked = request_selected(request);
+
 	if (request_only_reads(request))
 		return;
 	put(&call,
-	    "modes=%#x offset=%ld freq=%ld tick=%ld status=%#x "
-	    "constant=%ld time=%ld.%ld",
-	    request->modes, request->offset, request->freq, request->tick,
-	    (unsigned int)request->status, request->constant,
-	    request->time.tv_sec, request->time.tv_usec);
+	    "modes=%#x offset=%ld freq=%ld maxerror=%ld esterror=%ld "
+	    "tick=%ld status=%#x constant=%ld time=%ld.%ld",
+	    asked.modes, asked.offset, asked.freq, asked.maxerror,
+	    asked.esterror, asked.tick, (unsigned int)asked.status,
+	    asked.constant, asked.time.tv_sec, asked.time.tv_usec);
 }

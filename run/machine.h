@@ -203,11 +203,8 @@ int machine_set_micros(struct machine *machine, const struct timeval *time,
 /* Stores the time zone. */
 void machine_zone(const struct machine *machine, struct timezone *out);
 
-/* Returns whether a request asks only for the reply. */
-static inline bool request_only_reads(const struct timex *request)
-{
-	return !request->modes || request->modes == ADJ_OFFSET_SS_READ;
-}
+/* Returns the errno of clock_adjtime for a clock: 0 if it may be asked for. */
+int machine_adjust_error(clockid_t clock);
 
 /* Does what a struct timex asks for, and stores the reply and the state of the
  * clocks, unless it is refused. The caller has the lock. */

@@ -6,6 +6,8 @@
 #include "plan.h"
 #include "rows.h"
 
+#include <stdio.h>
+
 /* The rows in the order of the replay. */
 struct list {
 	const struct record_row **rows;
@@ -48,6 +50,10 @@ bool recording_write(struct recording *recording, struct machine *machine,
 
 /* Finds tkcore in tkrun's folder or in PATH, and ends tkrun if there is none. */
 void find_tkcore(void);
+
+/* Starts the replay of a script. Returns its report, or NULL. The child, if it isn't
+ * negative, has to be waited for. */
+FILE *tkcore_replay(const char *script, pid_t *child);
 
 /* Replays all parts by tkcore, and passes signals on to it, which end the replay.
  * Returns the number of results that differ, and prints the first of them. NOT_RUN

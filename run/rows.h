@@ -53,7 +53,12 @@ void rows_add(struct machine *machine, const struct record_row *row);
 /* Says that the clocks are steered. */
 void rows_steer(struct rows *rows);
 
-/* Adds a request, which steers the clocks. */
+/* Adds a request with its state and reply, or without them if it was refused. */
+void rows_add_request(struct machine *machine, const struct record_row *row,
+		      const struct timex *in, const struct timex *out,
+		      uint32_t state);
+
+/* Adds a request by its words. It steers the clocks. */
 void rows_add_asked(struct machine *machine, const struct record_row *row,
 		    const struct asked_words *asked);
 

@@ -1,10 +1,10 @@
 """Runs the tests of tkrun, and prints which were left out and why.
 
-    all.py [MODULE..]
+    all.py [--all] [MODULE..]
 
-Without a module, it runs all. The test of chronyd, which waits for a minute, runs next to the
-others. A test that fails is run once more, alone: the tests measure times, and a busy machine can
-hold up a program for longer than a test allows.
+Without a module, it runs the quick ones, and with --all those of servers too. The test of chronyd,
+which waits for a minute, and the suites of others run next to the rest. No test is run twice: each
+holds on a busy machine too.
 """
 import pathlib
 import subprocess
@@ -12,35 +12,38 @@ import sys
 import unittest
 
 FOLDER = pathlib.Path(__file__).parent
-BESIDE = "test_chrony"
+BESIDE = [["test_chrony"], ["test_kernel", "test_python", "test_faketime"]]
+SERVERS = ["test_postgresql", "test_redis", "test_nginx"]
 
 
 def run(names):
-    """Runs tests by the names of modules or of tests. Returns the names of those that failed."""
+    """Runs tests by the names of modules or of tests. Returns whether all have succeeded."""
     result = unittest.TextTestRunner().run(unittest.defaultTestLoader.loadTestsFromNames(names))
     for test, reason in result.skipped:
         print(f"check_run: left out {test.id()}: {reason}")
     sys.stdout.flush()
-    failed = [getattr(test, "test_case", test).id() for test, _ in result.failures + result.errors]
-    return list(dict.fromkeys(failed))
+    return result.wasSuccessful()
 
 
-def run_again(failed):
-    """Runs tests that failed once more. Returns whether all succeed now."""
-    if failed:
-        print("check_run: once more, alone:", *failed, flush=True)
-    return not failed or not run(failed)
+def start(names):
+    """Starts such a run in a process of its own."""
+    return subprocess.Popen([sys.executable, "-B", __file__, *names], stdout=subprocess.PIPE,
+                            stderr=subprocess.STDOUT, text=True)
 
 
-def main():
-    if sys.argv[1:]:
-        return not run(sys.argv[1:])
-    beside = subprocess.Popen([sys.executable, "-B", __file__, BESIDE], stdout=subprocess.PIPE,
-                              stderr=subprocess.STDOUT, text=True)
-    failed = run(sorted(path.stem for path in FOLDER.glob("test_*.py") if path.stem != BESIDE))
-    print(beside.communicate()[0], end="")
-    return run_again(failed + [BESIDE] * (beside.returncode != 0))
+def main(names, are_all):
+    if names:
+        return run(names)
+    groups = [start(names) for names in BESIDE + [SERVERS] * are_all]
+    besides = sum(BESIDE, SERVERS)
+    rest = sorted(path.stem for path in FOLDER.glob("test_*.py") if path.stem not in besides)
+    is_well = run(rest)
+    for group in groups:
+        print(group.communicate()[0], end="")
+        is_well = is_well and not group.returncode
+    return is_well
 
 
 sys.path.insert(0, str(FOLDER))
-sys.exit(not main())
+ARGUMENTS = sys.argv[1:]
+sys.exit(not main([name for name in ARGUMENTS if name != "--all"], "--all" in ARGUMENTS))

@@ -47,5 +47,5 @@ int main(int count, char **words)
 	start_readers();
 	for (int i = 0; i < rounds; i++)
 		kill_writers(&seed);
-	return end_readers(rounds * WRITERS);
+	return end_readers(rounds * WRITERS, READERS);
 }

@@ -85,7 +85,7 @@ static inline pid_t start(void (*run)(void))
 	return child;
 }
 
-static inline void start_readers(void)
+static inline void share(void)
 {
 	shared = mmap(NULL, sizeof(*shared), PROT_READ | PROT_WRITE,
 		      MAP_SHARED | MAP_ANONYMOUS, -1, 0);
@@ -93,20 +93,25 @@ static inline void start_readers(void)
 		perror("mmap");
 		exit(EXIT_FAILURE);
 	}
+}
+
+static inline void start_readers(void)
+{
+	share();
 	for (int i = 0; i < READERS; i++)
 		start(read_all);
 }
 
 /* Ends the readers, and prints the counts. A reader that ended in another way is
  * an error. Returns the program's status: at least one read must have been made. */
-static inline int end_readers(int killed)
+static inline int end_readers(int killed, int readers)
 {
 	int status, ended = 0;
 
 	shared->is_over = true;
 	while (wait(&status) > 0)
 		ended += !status;
-	shared->errors += READERS - ended;
+	shared->errors += readers - ended;
 	printf("killed %d, sets %ld, reads %ld, back %ld, errors %ld\n", killed,
 	       shared->sets, shared->reads, shared->back, shared->errors);
 	return shared->back || shared->errors || !shared->reads;

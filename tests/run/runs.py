@@ -3,6 +3,7 @@ import os
 import pathlib
 import re
 import shutil
+import signal
 import subprocess
 import tempfile
 import unittest
@@ -18,9 +19,27 @@ IS_ROOT = os.geteuid() == 0
 
 
 def call(command, **options):
-    """Runs a command, and returns its status and its texts."""
-    return subprocess.run(command, stdout=subprocess.PIPE, stderr=subprocess.PIPE, text=True,
-                          check=False, timeout=SECONDS, **options)
+    """Runs a command, and returns its status and its texts. If it takes too long, it is ended with
+    all that it has started."""
+    given = options.pop("input", None)
+    if given is not None:
+        options["stdin"] = subprocess.PIPE
+    with subprocess.Popen(command, stdout=subprocess.PIPE, stderr=subprocess.PIPE, text=True,
+                          start_new_session=True, **options) as process:
+        try:
+            texts = process.communicate(given, SECONDS)
+        except subprocess.TimeoutExpired:
+            os.killpg(process.pid, signal.SIGKILL)
+            raise
+    return subprocess.CompletedProcess(command, process.returncode, *texts)
+
+
+def host_call(command, text=""):
+    """Runs a program on the host's clocks, which it may not set. Returns its output."""
+    keeps = ["setpriv", "--bounding-set", "-sys_time"] if IS_ROOT else []
+    run = call([*keeps, command], input=text)
+    assert run.returncode == 0, run.stderr
+    return run.stdout
 
 
 def program(name):

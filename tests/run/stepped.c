@@ -3,12 +3,14 @@
  * Kills processes at equally distant instructions of a call that sets the
  * clocks, while others read.
  *
- *     stepped COUNT
+ *     stepped COUNT [alone]
  *
  * A writer is traced through its call, an instruction at a time. COUNT others
  * are killed in that call, whatever they have locked or half written. After
- * each, the clocks are set once more, which must succeed. Prints the counts, as
- * killed does.
+ * each, the clocks are set once more, which must succeed. With `alone`, there are
+ * no others, and this process reads the clocks first, so it takes over the lock:
+ * it must have the same signals blocked as before. Prints the counts, as killed
+ * does.
  */
 #define _GNU_SOURCE
 #include "readers.h"
@@ -16,6 +18,7 @@
 #include <limits.h>
 #include <signal.h>
 #include <sys/ptrace.h>
+#include <sys/syscall.h>
 
 /* Makes a request for a process. If it isn't allowed, or the process has been
  * killed, the program ends. */
@@ -59,20 +62,51 @@ static long step(long most)
 	return steps;
 }
 
+/* Returns the blocked signals, by the kernel's own call. */
+static unsigned long blocked(void)
+{
+	unsigned long set = 0;
+
+	syscall(SYS_rt_sigprocmask, SIG_BLOCK, NULL, &set, sizeof(set));
+	return set;
+}
+
+/* Reads the clocks, with one signal blocked. */
+static void read_alone(void)
+{
+	unsigned long set;
+	sigset_t one;
+
+	sigemptyset(&one);
+	sigaddset(&one, SIGUSR1);
+	sigprocmask(SIG_SETMASK, &one, NULL);
+	set = blocked();
+	check_real();
+	read_monotonic();
+	shared->errors += blocked() != set;
+	shared->reads++;
+}
+
 int main(int count, char **words)
 {
 	long kills = count > 1 ? atol(words[1]) : 10, all;
+	bool is_alone = count > 2;
 
-	start_readers();
+	if (is_alone)
+		share();
+	else
+		start_readers();
 	all = step(LONG_MAX);
 	if (!all) {
 		fprintf(stderr, "stepped: no instruction was traced\n");
-		end_readers(0);
+		end_readers(0, READERS);
 		return EXIT_FAILURE;
 	}
 	for (long i = 0; i < kills; i++) {
 		step(i * all / kills);
+		if (is_alone)
+			read_alone();
 		set_real((int)i);
 	}
-	return end_readers((int)kills);
+	return end_readers((int)kills, is_alone ? 0 : READERS);
 }

@@ -8,23 +8,9 @@ import subprocess
 import time
 import unittest
 
-from runs import TKRUN, RunTest, needs_root
+from runs import ROOT, TKRUN, RunTest, needs_root
 
-SERVER = """local stratum 1
-allow 127.0.0.1
-bindaddress 127.0.0.1
-port {port}
-cmdport 0
-bindcmdaddress /
-pidfile {folder}/server.pid
-"""
-CLIENT = """server 127.0.0.1 port {port} minpoll 0 maxpoll 2 iburst
-makestep 0.1 3
-port 0
-cmdport {command_port}
-bindcmdaddress 127.0.0.1
-pidfile {folder}/client.pid
-"""
+EXAMPLE = ROOT / "examples/chrony"
 CHRONYD = shutil.which("chronyd", path="/usr/sbin:/sbin:/usr/bin:/bin")
 DAEMON = [CHRONYD, "-d", "-u", "root", "-F", "0", "-f"]
 SPAN = 60  # seconds
@@ -45,6 +31,13 @@ class Chrony(RunTest):
         self.addCleanup(process.terminate)
         return process
 
+    def configured(self, name, places):
+        """Copies a configuration of the example, at these ports and in this folder."""
+        text = (EXAMPLE / name).read_text()
+        for place, other in places.items():
+            text = text.replace(place, other)
+        return self.file(name, text)
+
     def tracking(self, port):
         """What the client believes: its offset in seconds, and its frequency in ppm."""
         report = subprocess.run(["chronyc", "-h", "127.0.0.1", "-p", str(port), "-c", "tracking"],
@@ -54,15 +47,14 @@ class Chrony(RunTest):
     @needs_root("runs a chronyd")
     @unittest.skipUnless(CHRONYD, "chronyd isn't installed")
     def test_a_clock_that_is_off_and_too_fast(self):
-        places = {"port": free_port(), "command_port": free_port(), "folder": self.folder}
-        server = self.file("server.conf", SERVER.format(**places))
-        client = self.file("client.conf", CLIENT.format(**places))
+        places = {"11123": str(free_port()), "11323": str(free_port()), "/tmp": str(self.folder)}
+        server, client = (self.configured(name, places) for name in ("server.conf", "client.conf"))
         log = self.folder / "log"
         self.begin("setpriv", "--bounding-set", "-sys_time", *DAEMON, server, "-x")
         run = self.begin(TKRUN, "--ahead", 0.3, "--error-ppm", 80, "--log", log, "--check", "--",
                          *DAEMON, client)
         time.sleep(SPAN)
-        offset, frequency = self.tracking(places["command_port"])
+        offset, frequency = self.tracking(places["11323"])
         run.terminate()
         report, calls = run.communicate(timeout=60)[0], log.read_text()
         self.assertEqual(run.returncode, 0, report)
