@@ -2,7 +2,7 @@
 /* The calls that wait for files, messages or signals, for a span or until a
  * time. */
 #define _GNU_SOURCE
-#include "calls.h"
+#include "calls_wait.h"
 
 #include <mqueue.h>
 #include <poll.h>

@@ -2,6 +2,7 @@
 /* Timed waits of a futex, which a program makes by syscall(2). */
 #define _GNU_SOURCE
 #include "calls_system.h"
+#include "calls_wait.h"
 
 #include <linux/futex.h>
 #include <sys/syscall.h>

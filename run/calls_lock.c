@@ -1,7 +1,7 @@
 /* SPDX-License-Identifier: MIT OR Apache-2.0 */
 /* The calls that wait for a lock or a thread until a time. */
 #define _GNU_SOURCE
-#include "calls.h"
+#include "calls_wait.h"
 
 #include <pthread.h>
 #include <semaphore.h>
