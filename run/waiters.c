@@ -3,7 +3,7 @@
 #define _GNU_SOURCE
 #include "machine.h"
 
-#include <sys/syscall.h>
+#include <sys/stat.h>
 #include <unistd.h>
 
 /* How often a process has forked since it is one of tkrun's. */
@@ -12,6 +12,11 @@ static uint32_t forks;
 void waiters_forked(void)
 {
 	forks++;
+}
+
+uint32_t waiters_forks(void)
+{
+	return forks;
 }
 
 /* Returns the same owner with another thread. */
@@ -32,28 +37,41 @@ void waiter_free(struct waiter *waiter, uint64_t owner)
 	pass_on(waiter, owner, with_thread(owner, 0));
 }
 
-/* Takes a free entry for a thread: for minus the thread, since the time isn't
+/* Takes an entry for a thread if it is free: for minus the thread, since the time isn't
  * written yet. */
+static bool take_entry(struct control *control, uint32_t index, int32_t thread,
+		       struct ticket *ticket)
+{
+	struct waiter *waiter = &control->waiters[index];
+	uint32_t count = atomic_load(&control->waiters_count);
+	uint64_t owner;
+
+	/* tkrun looks at this entry too, before it is taken */
+	while (count <= index &&
+	       !atomic_compare_exchange_weak(&control->waiters_count, &count,
+					     index + 1))
+		;
+	owner = atomic_load(&waiter->owner);
+	ticket->owner = with_thread(owner + (UINT64_C(1) << 32), -thread);
+	if (owner_thread(owner) || !pass_on(waiter, owner, ticket->owner))
+		return false;
+	ticket->waiter = waiter;
+	return true;
+}
+
+/* Takes the first free entry, or the one that this thread has had before. */
 static struct ticket take_waiter(struct control *control, int32_t thread)
 {
+	static _Thread_local uint32_t last;
 	struct ticket ticket = { .forks = forks };
 
+	if (last && take_entry(control, last, thread, &ticket))
+		return ticket;
 	for (uint32_t i = 0; i < WAITERS_MOST; i++) {
-		struct waiter *waiter = &control->waiters[i];
-		uint32_t count = atomic_load(&control->waiters_count);
-		uint64_t owner;
-
-		/* tkrun looks at this entry too, before it is taken */
-		while (count <= i &&
-		       !atomic_compare_exchange_weak(&control->waiters_count,
-						     &count, i + 1))
-			;
-		owner = atomic_load(&waiter->owner);
-		ticket.owner = with_thread(owner + (UINT64_C(1) << 32), -thread);
-		if (owner_thread(owner) || !pass_on(waiter, owner, ticket.owner))
-			continue;
-		ticket.waiter = waiter;
-		break;
+		if (take_entry(control, i, thread, &ticket)) {
+			last = i;
+			break;
+		}
 	}
 	return ticket;
 }
@@ -64,12 +82,13 @@ struct ticket waiter_enter_for(struct machine *machine, int32_t thread,
 	struct ticket ticket = { 0 };
 	uint64_t owner;
 
-	if (machine->shared->kind != COUNTER_SLEEPS || !machine->control)
+	if (!machine->control)
 		return ticket;
 	ticket = take_waiter(machine->control, thread);
 	if (!ticket.waiter) {
-		atomic_fetch_or(&machine->control->host_waits,
-				1U << HOST_UNLISTED);
+		if (machine->shared->kind == COUNTER_SLEEPS)
+			atomic_fetch_or(&machine->control->host_waits,
+					1U << HOST_UNLISTED);
 		return ticket;
 	}
 	ticket.waiter->clock = clock;
@@ -86,9 +105,52 @@ struct ticket waiter_enter(struct machine *machine, uint32_t clock, int64_t sec,
 {
 	if (machine->shared->kind != COUNTER_SLEEPS)
 		return (struct ticket){ 0 };
-	return waiter_enter_for(
-		machine, (int32_t)host_call(SYS_gettid, 0, 0, 0, 0, 0, 0),
-		clock, sec, nsec);
+	return waiter_enter_for(machine, own_thread(), clock, sec, nsec);
+}
+
+void waiter_let_signal(const struct ticket *ticket)
+{
+	atomic_store(&ticket->waiter->process, getpid());
+	atomic_store(&ticket->waiter->signal,
+		     with_thread(ticket->owner, SIGNAL_LET));
+}
+
+bool waiter_let_none(const struct ticket *ticket)
+{
+	struct waiter *waiter = ticket->waiter;
+	uint64_t none = with_thread(ticket->owner, SIGNAL_NOT), now;
+
+	now = atomic_load(&waiter->signal);
+	while (ticket->forks == forks && with_thread(now, SIGNAL_NOT) == none) {
+		if (atomic_compare_exchange_strong(&waiter->signal, &now, none))
+			return owner_thread(now) != SIGNAL_SENT;
+	}
+	return true;
+}
+
+bool waiter_got_signal(const struct ticket *ticket)
+{
+	uint64_t sent = with_thread(ticket->owner, SIGNAL_SENT);
+
+	return ticket->forks == forks &&
+	       atomic_compare_exchange_strong(
+		       &ticket->waiter->signal, &sent,
+		       with_thread(ticket->owner, SIGNAL_LET));
+}
+
+bool waiter_has_signal(const struct waiter *waiter, uint64_t owner)
+{
+	uint64_t now = atomic_load(&waiter->signal);
+
+	return now == with_thread(owner, SIGNAL_LET) ||
+	       now == with_thread(owner, SIGNAL_SENT);
+}
+
+uint64_t waiters_space(void)
+{
+	struct stat status;
+
+	return stat("/proc/self/ns/pid", &status) ? 0 : status.st_ino;
 }
 
 void waiters_forget(struct machine *machine, int32_t thread)
@@ -113,18 +175,42 @@ void waiter_leave(struct ticket *ticket)
 	ticket->waiter = NULL;
 }
 
+/* A process of another user can't: its threads look now and then. */
 void machine_wake_unlisted(struct machine *machine)
 {
+	if (!machine->control)
+		return;
 	atomic_fetch_add(&machine->shared->generation, 1);
 	host_futex_wake(&machine->shared->generation);
 }
 
-void waiter_wake(struct waiter *waiter)
+static void wake_sleeper(struct waiter *waiter)
 {
 	atomic_fetch_add(&waiter->changes, 1);
 	host_futex_wake(&waiter->changes);
 }
 
+/* Sends a waiter's signal, unless the last one is still on its way. */
+static void send_signal(struct waiter *waiter, uint64_t owner)
+{
+	uint64_t let = with_thread(owner, SIGNAL_LET),
+		 sent = with_thread(owner, SIGNAL_SENT);
+
+	if (atomic_compare_exchange_strong(&waiter->signal, &let, sent) &&
+	    host_call(SYS_tgkill, atomic_load(&waiter->process),
+		      owner_thread(owner), WAKE_SIGNAL, 0, 0, 0))
+		atomic_compare_exchange_strong(&waiter->signal, &sent, let);
+}
+
+void waiter_wake(struct waiter *waiter, uint64_t owner)
+{
+	if (waiter_has_signal(waiter, owner))
+		send_signal(waiter, owner);
+	else
+		wake_sleeper(waiter);
+}
+
+/* Only tkrun sends signals: it soon sees that the clocks have changed. */
 void machine_wake(struct machine *machine)
 {
 	struct control *control = machine->control;
@@ -132,7 +218,10 @@ void machine_wake(struct machine *machine)
 
 	machine_wake_unlisted(machine);
 	for (uint32_t i = 0; i < count; i++) {
-		if (owner_thread(atomic_load(&control->waiters[i].owner)))
-			waiter_wake(&control->waiters[i]);
+		struct waiter *waiter = &control->waiters[i];
+		uint64_t owner = atomic_load(&waiter->owner);
+
+		if (owner_thread(owner) && !waiter_has_signal(waiter, owner))
+			wake_sleeper(waiter);
 	}
 }

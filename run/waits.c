@@ -7,8 +7,10 @@
 #include <sys/syscall.h>
 #include <unistd.h>
 
-/* The longest wait before a sleeper looks again: the rate may have changed. */
-static const uint64_t LONGEST = 10 * (uint64_t)NANOS;
+/* The longest wait before a sleeper looks again: the rate may have changed. With a counter
+ * of sleeps, tkrun wakes each sleeper at its time. */
+static const uint64_t LONGEST = 10 * (uint64_t)NANOS,
+		      LONGEST_SLEEPS = 1000 * (uint64_t)NANOS;
 
 enum { DAY_SEC = 86400 };
 
@@ -106,8 +108,8 @@ int machine_sleep(struct machine *machine, uint32_t clock, int64_t sec,
 	struct ticket ticket = waiter_enter(machine, clock, sec, nsec);
 	_Atomic uint32_t *futex = ticket.waiter ? &ticket.waiter->changes
 						: &machine->shared->generation;
+	uint64_t most = ticket.waiter ? LONGEST_SLEEPS : LONGEST, left;
 	uint32_t seen;
-	uint64_t left;
 	int error = 0;
 
 	while (error != EINTR) {
@@ -115,8 +117,8 @@ int machine_sleep(struct machine *machine, uint32_t clock, int64_t sec,
 		left = machine_left(machine, clock, sec, nsec);
 		if (!left)
 			break;
-		if (left > LONGEST)
-			left = LONGEST;
+		if (left > most)
+			left = most;
 		error = host_futex_wait(futex, seen,
 					host_nanos(CLOCK_MONOTONIC) + left);
 	}
