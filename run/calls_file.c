@@ -24,8 +24,13 @@ static bool wait_span(struct wait *wait, const struct timespec *span)
 	struct machine *m = machine();
 	struct timespec until;
 
-	if (!m || !span || (!span->tv_sec && !span->tv_nsec) ||
-	    !machine_after(m, CLOCK_MONOTONIC, span, &until))
+	if (!m || !span)
+		return false;
+	if (!span->tv_sec && !span->tv_nsec) {
+		machine_looked(m, 1);
+		return false;
+	}
+	if (!machine_after(m, CLOCK_MONOTONIC, span, &until))
 		return false;
 	wait_begin(wait, m, CLOCK_MONOTONIC, &until);
 	return true;

@@ -93,10 +93,19 @@ static uint64_t host_period(struct machine *m, uint64_t period)
 	return left > INT64_MAX ? 0 : left;
 }
 
-static bool has_reached(const struct tkc_time *now, const struct timespec *time)
+/* Returns by how many ns a clock is past a time, or -1. With a counter of sleeps, a timer
+ * expires when the clock is past its time, as a wait ends then. */
+static int64_t late_nanos(const struct machine *m, const struct tkc_time *now,
+			  const struct timespec *time)
 {
-	return now->sec > time->tv_sec ||
-	       (now->sec == time->tv_sec && (long)now->nsec >= time->tv_nsec);
+	int64_t least = m->shared->kind == COUNTER_SLEEPS, late;
+
+	if (now->sec < time->tv_sec)
+		return -1;
+	/* no clock reaches 2^63 ns */
+	late = (now->sec - time->tv_sec) * NANOS + (int64_t)now->nsec -
+	       time->tv_nsec;
+	return late < least ? -1 : late;
 }
 
 /* Moves `next` to the first time that the clock hasn't reached, by whole
@@ -107,13 +116,14 @@ static uint64_t skip_reached(struct machine *m, struct timer *timer)
 	uint64_t count = 1;
 	int64_t late;
 
-	if (machine_read(m, (uint32_t)timer->clock, &now) ||
-	    !has_reached(&now, &timer->next))
+	if (machine_read(m, (uint32_t)timer->clock, &now))
 		return 0;
-	/* no clock reaches 2^63 ns */
-	late = (now.sec - timer->next.tv_sec) * NANOS + (int64_t)now.nsec -
-	       timer->next.tv_nsec;
+	late = late_nanos(m, &now, &timer->next);
+	if (late < 0)
+		return 0;
 	if (timer->period) {
+		if (m->shared->kind == COUNTER_SLEEPS)
+			late--;
 		count = (uint64_t)late / timer->period + 1;
 		timer->next = later(timer->next, count * timer->period);
 	}

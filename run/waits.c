@@ -64,9 +64,22 @@ struct timespec machine_until(struct machine *machine, int clock,
 	return left;
 }
 
+/* With a counter of sleeps, a wait ends at the first reading at which the clock is past
+ * its time. On a real clock, a program that waited for a span never reads just this span,
+ * and some wait again then (Condvar::wait_timeout_while of Rust). */
+static struct timespec end_of(const struct machine *machine, int64_t sec,
+			      uint32_t nsec)
+{
+	if (machine->shared->kind != COUNTER_SLEEPS || sec == INT64_MAX)
+		return (struct timespec){ sec, nsec };
+	nsec++;
+	return (struct timespec){ sec + nsec / NANOS, nsec % NANOS };
+}
+
 uint64_t machine_cycles_left(struct machine *machine, uint32_t clock,
 			     int64_t sec, uint32_t nsec)
 {
+	struct timespec end = end_of(machine, sec, nsec);
 	uint64_t reading, then, mask = machine->shared->mask;
 	struct tkc_snapshot snapshot;
 	struct tkc_time now;
@@ -75,11 +88,13 @@ uint64_t machine_cycles_left(struct machine *machine, uint32_t clock,
 	if (machine_look(machine, &snapshot, &reading) ||
 	    tkc_snapshot_get(&now, &snapshot, clock, reading))
 		return NEVER;
-	if (now.sec > sec || (now.sec == sec && now.nsec >= nsec))
+	if (now.sec > end.tv_sec ||
+	    (now.sec == end.tv_sec && now.nsec >= end.tv_nsec))
 		return 0;
 	if (clock == TKC_CLOCK_REALTIME)
-		sec = without_leap(machine, now.sec, sec);
-	code = tkc_snapshot_reading(&then, &snapshot, clock, sec, nsec);
+		end.tv_sec = without_leap(machine, now.sec, end.tv_sec);
+	code = tkc_snapshot_reading(&then, &snapshot, clock, end.tv_sec,
+				    (uint32_t)end.tv_nsec);
 	if (code)
 		return code == TKC_FURTHER ? mask / 4 : NEVER;
 	then = (then - reading) & mask;
@@ -124,4 +139,62 @@ int machine_sleep(struct machine *machine, uint32_t clock, int64_t sec,
 	}
 	waiter_leave(&ticket);
 	return error == EINTR ? EINTR : 0;
+}
+
+/* A thread that looks at a counter of sleeps in a loop lets it move after LOOKS_MOST
+ * looks, by a sleep. The sleep becomes longer the longer the loop takes, by clocks that
+ * move only in these sleeps. */
+enum {
+	LOOKS_MOST = 1000,
+	SPIN_NANOS = 1000,
+	SPIN_MOST_NANOS = 100000,
+	SPIN_PART = 16, /* of what the loop has taken */
+};
+
+/* What a thread has looked at. */
+struct looks {
+	uint64_t cycles; /* of the counter, when the thread looked last */
+	uint64_t spun;	 /* ns: how long the loop has taken */
+	uint32_t count;
+};
+
+/* Sleeps for some ns. It is neither cancelled nor recorded as a read. */
+static void spin(struct machine *machine, uint64_t nanos)
+{
+	struct tkc_snapshot snapshot;
+	struct tkc_time now;
+	uint64_t reading;
+	int state;
+
+	if (machine_look(machine, &snapshot, &reading) ||
+	    tkc_snapshot_get(&now, &snapshot, TKC_CLOCK_MONOTONIC, reading))
+		return;
+	nanos += now.nsec;
+	pthread_setcancelstate(PTHREAD_CANCEL_DISABLE, &state);
+	machine_sleep(machine, TKC_CLOCK_MONOTONIC,
+		      now.sec + (int64_t)(nanos / NANOS),
+		      (uint32_t)(nanos % NANOS));
+	pthread_setcancelstate(state, NULL);
+}
+
+void machine_looked(struct machine *machine, uint32_t count)
+{
+	static _Thread_local struct looks looks;
+	uint64_t cycles, span;
+
+	if (machine->shared->kind != COUNTER_SLEEPS || !machine->control)
+		return;
+	cycles = atomic_load(&machine->shared->cycles);
+	if (cycles != looks.cycles)
+		looks = (struct looks){ .cycles = cycles };
+	looks.count += count;
+	if (looks.count < LOOKS_MOST)
+		return;
+	span = looks.spun / SPIN_PART;
+	span = span < SPIN_NANOS ? SPIN_NANOS : span;
+	span = span > SPIN_MOST_NANOS ? SPIN_MOST_NANOS : span;
+	spin(machine, span);
+	looks.cycles = atomic_load(&machine->shared->cycles);
+	looks.spun += span;
+	looks.count = 0;
 }
