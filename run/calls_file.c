@@ -262,7 +262,7 @@ static bool wait_time(struct wait *wait, const struct timespec *time)
 {
 	struct machine *m = machine();
 
-	if (!m || !time || is_bad(time))
+	if (!m || !time || is_bad(time) || time->tv_sec < 0)
 		return false;
 	wait_begin(wait, m, CLOCK_REALTIME, time);
 	wait_unmasked(wait, -ETIMEDOUT);

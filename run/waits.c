@@ -14,16 +14,22 @@ static const uint64_t LONGEST = 10 * (uint64_t)NANOS,
 
 enum { DAY_SEC = 86400 };
 
-/* Returns the second at which a second of REALTIME would begin without a leap
- * second at the end of the day. */
-static int64_t without_leap(const struct machine *machine, int64_t now,
-			    int64_t sec)
+/* Returns when a time of REALTIME would come without a leap second at the end of the day.
+ * A time in a deleted second comes when that second would begin. In the day's last second,
+ * no deletion is due at its end. */
+static struct timespec without_leap(const struct machine *machine, int64_t now,
+				    struct timespec time)
 {
 	int64_t tomorrow = (now / DAY_SEC + 1) * DAY_SEC;
+	int32_t leap = atomic_load(&machine->shared->leap);
 
-	if (sec < tomorrow || sec == INT64_MAX)
-		return sec;
-	return sec + atomic_load(&machine->shared->leap);
+	if (leap < 0 && now == tomorrow - 1)
+		tomorrow += DAY_SEC;
+	if (leap < 0 && time.tv_sec == tomorrow - 1)
+		return (struct timespec){ time.tv_sec, 0 };
+	if (time.tv_sec >= tomorrow && time.tv_sec != INT64_MAX)
+		time.tv_sec += leap;
+	return time;
 }
 
 bool machine_after(struct machine *machine, int clock,
@@ -92,7 +98,7 @@ uint64_t machine_cycles_left(struct machine *machine, uint32_t clock,
 	    (now.sec == end.tv_sec && now.nsec >= end.tv_nsec))
 		return 0;
 	if (clock == TKC_CLOCK_REALTIME)
-		end.tv_sec = without_leap(machine, now.sec, end.tv_sec);
+		end = without_leap(machine, now.sec, end);
 	code = tkc_snapshot_reading(&then, &snapshot, clock, end.tv_sec,
 				    (uint32_t)end.tv_nsec);
 	if (code)
