@@ -2,7 +2,7 @@
 /* The calls that wait for files, messages or signals, for a span or until a
  * time. */
 #define _GNU_SOURCE
-#include "calls.h"
+#include "calls_wait.h"
 
 #include <mqueue.h>
 #include <poll.h>
@@ -24,8 +24,13 @@ static bool wait_span(struct wait *wait, const struct timespec *span)
 	struct machine *m = machine();
 	struct timespec until;
 
-	if (!m || !span || (!span->tv_sec && !span->tv_nsec) ||
-	    !machine_after(m, CLOCK_MONOTONIC, span, &until))
+	if (!m || !span)
+		return false;
+	if (!span->tv_sec && !span->tv_nsec) {
+		machine_looked(m, 1);
+		return false;
+	}
+	if (!machine_after(m, CLOCK_MONOTONIC, span, &until))
 		return false;
 	wait_begin(wait, m, CLOCK_MONOTONIC, &until);
 	return true;
@@ -50,9 +55,10 @@ EXPORT int ppoll(struct pollfd *files, nfds_t count,
 
 	if (!wait_span(&wait, span))
 		return REAL(ppoll)(files, count, span, mask);
+	wait_mask(&wait, mask);
 	do {
 		slice = next_slice(&wait);
-		ready = REAL(ppoll)(files, count, &slice, mask);
+		ready = REAL(ppoll)(files, count, &slice, &wait.mask);
 	} while (!ready && !wait.is_reached);
 	wait_end(&wait);
 	return ready;
@@ -89,10 +95,11 @@ static int select_slices(struct wait *wait, int count, fd_set *const sets[3],
 	int ready;
 
 	copy_sets(sets, copies, size, false);
+	wait_mask(wait, mask);
 	for (;;) {
 		slice = next_slice(wait);
 		ready = REAL(pselect)(count, sets[0], sets[1], sets[2], &slice,
-				      mask);
+				      &wait->mask);
 		if (ready || wait->is_reached)
 			return ready;
 		copy_sets(sets, copies, size, true);
@@ -147,9 +154,11 @@ EXPORT int epoll_pwait2(int file, struct epoll_event *events, int most,
 
 	if (!wait_span(&wait, span))
 		return REAL(epoll_pwait2)(file, events, most, span, mask);
+	wait_mask(&wait, mask);
 	do {
 		slice = next_slice(&wait);
-		ready = REAL(epoll_pwait2)(file, events, most, &slice, mask);
+		ready = REAL(epoll_pwait2)(file, events, most, &slice,
+					   &wait.mask);
 	} while (!ready && !wait.is_reached);
 	wait_end(&wait);
 	return ready;
@@ -164,9 +173,11 @@ static int wait_millis(int file, struct epoll_event *events, int most,
 
 	if (!wait_span(&wait, span))
 		return refuse(EINVAL);
+	wait_mask(&wait, mask);
 	do {
 		slice = (int)((wait_slice(&wait) + 999999) / 1000000);
-		ready = REAL(epoll_pwait)(file, events, most, slice, mask);
+		ready = REAL(epoll_pwait)(file, events, most, slice,
+					  &wait.mask);
 	} while (!ready && !wait.is_reached);
 	wait_end(&wait);
 	return ready;
@@ -197,13 +208,17 @@ EXPORT int sigtimedwait(const sigset_t *restrict set, siginfo_t *restrict info,
 {
 	struct timespec slice;
 	struct wait wait;
+	sigset_t own = *set;
 	int number;
 
 	if (!wait_span(&wait, span))
 		return REAL(sigtimedwait)(set, info, span);
+	wait_unmasked(&wait, -EAGAIN);
+	if (wait.is_signalled)
+		sigdelset(&own, WAKE_SIGNAL);
 	do {
 		slice = next_slice(&wait);
-		number = REAL(sigtimedwait)(set, info, &slice);
+		number = REAL(sigtimedwait)(&own, info, &slice);
 	} while (number < 0 && errno == EAGAIN && !wait.is_reached);
 	wait_end(&wait);
 	return number;
@@ -233,6 +248,7 @@ EXPORT int semtimedop(int set, struct sembuf *operations, size_t count,
 	}
 	if (!wait_span(&wait, span))
 		return REAL(semtimedop)(set, operations, count, span);
+	wait_unmasked(&wait, -EAGAIN);
 	do {
 		slice = next_slice(&wait);
 		result = REAL(semtimedop)(set, operations, count, &slice);
@@ -246,9 +262,10 @@ static bool wait_time(struct wait *wait, const struct timespec *time)
 {
 	struct machine *m = machine();
 
-	if (!m || !time || is_bad(time))
+	if (!m || !time || is_bad(time) || time->tv_sec < 0)
 		return false;
 	wait_begin(wait, m, CLOCK_REALTIME, time);
+	wait_unmasked(wait, -ETIMEDOUT);
 	return true;
 }
 

@@ -2,6 +2,7 @@
 /* Timed waits of a futex, which a program makes by syscall(2). */
 #define _GNU_SOURCE
 #include "calls_system.h"
+#include "calls_wait.h"
 
 #include <linux/futex.h>
 #include <sys/syscall.h>
@@ -46,6 +47,7 @@ static long wait_until(struct machine *m, const long *a, int clock,
 		return refuse(EINVAL);
 	operation |= a[1] & FUTEX_PRIVATE_FLAG;
 	wait_begin(&wait, m, clock, &time);
+	wait_unmasked(&wait, -ETIMEDOUT);
 	do {
 		result = wait_slice_once(&wait, a, operation, bits);
 	} while (result == -ETIMEDOUT && !wait.is_reached);
@@ -64,6 +66,7 @@ static long wait_several(struct machine *m, const long *a)
 	    (a[4] != CLOCK_REALTIME && a[4] != CLOCK_MONOTONIC))
 		return refuse(EINVAL);
 	wait_begin(&wait, m, (int)a[4], &time);
+	wait_unmasked(&wait, -ETIMEDOUT);
 	do {
 		until = wait_slice_end(&wait);
 		result = host_call(SYS_futex_waitv, a[0], a[1], a[2],

@@ -1,7 +1,7 @@
 /* SPDX-License-Identifier: MIT OR Apache-2.0 */
 /* The calls that wait for a lock or a thread until a time. */
 #define _GNU_SOURCE
-#include "calls.h"
+#include "calls_wait.h"
 
 #include <pthread.h>
 #include <semaphore.h>
@@ -21,6 +21,7 @@ static bool is_ours(struct machine *m, clockid_t clock,
 		struct timespec until;                                    \
 		int error;                                                \
 		wait_begin(&wait, machine(), machine_clock(clock), time); \
+		wait_unmasked(&wait, -ETIMEDOUT);                         \
 		do {                                                      \
 			until = wait_slice_end(&wait);                    \
 			error = (call);                                   \
@@ -51,9 +52,26 @@ EXPORT int sem_timedwait(sem_t *restrict semaphore,
 	return sem_clockwait(semaphore, CLOCK_REALTIME, time);
 }
 
+/* The longest rest of a wait that begins anew, without the call that waits. */
+enum { REST_NANOS = 10000000 };
+
+/* Sleeps for what the clocks lack when the host's time has come: a discipline may have
+ * made them slower. Returns whether they have reached the wait's time. */
+static bool wait_rest(struct wait *wait)
+{
+	uint64_t left = wait_slice(wait);
+
+	while (left && left < REST_NANOS) {
+		host_nap(left);
+		left = wait_slice(wait);
+	}
+	return !left;
+}
+
 /*
- * Before its time it may return as if it was woken, which POSIX allows. If it
- * waited again here, it could miss a signal that came in between.
+ * The wait isn't divided in slices: a signal to the condition variable that came between
+ * two of them would be lost. If the clocks were set back, it returns as if it was woken,
+ * which POSIX allows, and so it does after a slice without WAKE_SIGNAL.
  */
 EXPORT int pthread_cond_clockwait(pthread_cond_t *cond, pthread_mutex_t *mutex,
 				  clockid_t clock, const struct timespec *time)
@@ -66,10 +84,12 @@ EXPORT int pthread_cond_clockwait(pthread_cond_t *cond, pthread_mutex_t *mutex,
 	if (!is_ours(m, clock, time))
 		return REAL(pthread_cond_clockwait)(cond, mutex, clock, time);
 	wait_begin(&wait, m, machine_clock(clock), time);
+	wait_unmasked(&wait, -ETIMEDOUT);
+	wait.is_whole = wait.is_signalled;
 	until = wait_slice_end(&wait);
 	error = REAL(pthread_cond_clockwait)(cond, mutex, CLOCK_MONOTONIC,
 					     &until);
-	if (error == ETIMEDOUT && !wait.is_reached && wait_slice(&wait))
+	if (error == ETIMEDOUT && !wait.is_reached && !wait_rest(&wait))
 		error = 0;
 	wait_end(&wait);
 	return error;

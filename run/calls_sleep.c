@@ -12,6 +12,10 @@ static int sleep_for(struct machine *m, int clock, const struct timespec *span,
 	struct timespec until;
 	int error;
 
+	if (!span->tv_sec && !span->tv_nsec) {
+		machine_looked(m, 1);
+		return 0;
+	}
 	if (!machine_after(m, clock, span, &until))
 		return EINVAL;
 	error = machine_sleep(m, (uint32_t)clock, until.tv_sec,

@@ -5,8 +5,10 @@
  * it converts them: a packet is as old on the clocks as it is on the host.
  */
 #define _GNU_SOURCE
-#include "calls.h"
+#include "calls_socket.h"
 
+#include <netinet/in.h>
+#include <netinet/tcp.h>
 #include <string.h>
 #include <sys/socket.h>
 #include <sys/time.h>
@@ -16,6 +18,8 @@ EXPORT int setsockopt(int file, int level, int name, const void *value,
 {
 	struct machine *m = machine();
 
+	if (level == IPPROTO_TCP && name == TCP_NODELAY)
+		return set_no_delay(m, file, value, length);
 	if (!m || level != SOL_SOCKET)
 		return REAL(setsockopt)(file, level, name, value, length);
 	switch (name) {

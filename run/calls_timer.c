@@ -3,6 +3,7 @@
 #define _GNU_SOURCE
 #include "timers.h"
 
+#include <signal.h>
 #include <sys/syscall.h>
 #include <sys/time.h>
 #include <sys/timerfd.h>
@@ -74,16 +75,31 @@ EXPORT int timerfd_gettime(int file, struct itimerspec *out)
 	return timer ? 0 : REAL(timerfd_gettime)(file, out);
 }
 
+/* Returns the clock of the host's timers. With a counter of sleeps, none of them is armed
+ * for longer than a moment. */
+static int host_clock(const struct machine *m)
+{
+	return m->shared->kind == COUNTER_SLEEPS ? CLOCK_REALTIME
+						 : CLOCK_MONOTONIC;
+}
+
 /* Adds a timer of the host to the table. Returns false if memory is missing. */
-static bool add_posix(int clock, timer_t posix)
+static bool add_posix(int clock, timer_t posix, const struct sigevent *event)
 {
 	struct timer *timer;
 	sigset_t saved;
 
 	timers_lock(&saved);
 	timer = timer_add(TIMER_POSIX, clock);
-	if (timer)
+	if (timer) {
 		timer->posix = posix;
+		timer->signal = !event ? SIGALRM : 0;
+		if (event && (event->sigev_notify == SIGEV_SIGNAL ||
+			      event->sigev_notify == SIGEV_THREAD_ID))
+			timer->signal = event->sigev_signo;
+		if (event && event->sigev_notify == SIGEV_THREAD_ID)
+			timer->thread = event->_sigev_un._tid;
+	}
 	timers_unlock(&saved);
 	return timer;
 }
@@ -93,10 +109,10 @@ EXPORT int timer_create(clockid_t clock, struct sigevent *restrict event,
 {
 	struct machine *m = machine();
 	int number = m ? machine_clock(clock) : -1;
-	int result = REAL(timer_create)(number < 0 ? clock : CLOCK_MONOTONIC,
+	int result = REAL(timer_create)(number < 0 ? clock : host_clock(m),
 					event, out);
 
-	if (result || number < 0 || add_posix(number, *out))
+	if (result || number < 0 || add_posix(number, *out, event))
 		return result;
 	REAL(timer_delete)(*out);
 	return refuse(EAGAIN);
@@ -108,12 +124,12 @@ long create_kernel_timer(clockid_t clock, struct sigevent *event, int *out)
 {
 	int number = machine_clock(clock);
 	long result = host_call(SYS_timer_create,
-				number < 0 ? clock : CLOCK_MONOTONIC,
+				number < 0 ? clock : host_clock(machine()),
 				(long)event, (long)out, 0, 0, 0);
 
 	if (result)
 		return refuse((int)-result);
-	if (number < 0 || add_posix(number, kernel_timer(*out)))
+	if (number < 0 || add_posix(number, kernel_timer(*out), event))
 		return 0;
 	host_call(SYS_timer_delete, *out, 0, 0, 0, 0, 0);
 	return refuse(EAGAIN);

@@ -55,6 +55,7 @@ void machine_init_lock(struct control *control)
 	pthread_mutexattr_setpshared(&attributes, PTHREAD_PROCESS_SHARED);
 	pthread_mutexattr_setrobust(&attributes, PTHREAD_MUTEX_ROBUST);
 	pthread_mutex_init(&control->lock, &attributes);
+	control->pid_space = waiters_space();
 }
 
 uint64_t machine_host(enum counter_kind kind)

@@ -17,6 +17,7 @@
 #include <stdatomic.h>
 #include <stdbool.h>
 #include <stddef.h>
+#include <sys/syscall.h>
 #include <sys/time.h>
 #include <sys/timex.h>
 #include <tkcore_page.h>
@@ -59,17 +60,28 @@ struct shared_page {
 	_Alignas(64) _Atomic uint32_t generation; /* who isn't listed looks again */
 };
 
+/* The signal by which tkrun ends a wait for something that isn't only a time. */
+#define WAKE_SIGNAL 63
+
+/* Whether a waiter's thread lets WAKE_SIGNAL end its wait. */
+enum { SIGNAL_NOT, SIGNAL_LET, SIGNAL_SENT };
+
 /*
  * An entry of a thread that waits for a time of a clock. The low half of `owner`
  * is the thread, or minus the thread until the time is written, or 0 if the entry
  * is free. The high half counts the waits that have had the entry, so no two of
- * them have the same owner. A sleeper looks again when `changes` moves on.
+ * them have the same owner. A sleeper looks again when `changes` moves on. The
+ * high half of `signal` is the owner's, and the low half is one of SIGNAL_NOT,
+ * SIGNAL_LET and SIGNAL_SENT: tkrun sends one signal, and then none until the
+ * thread has got it.
  */
 struct waiter {
 	_Atomic uint64_t owner;
 	uint32_t clock, nsec;
 	int64_t sec;
 	_Atomic uint32_t changes;
+	_Atomic int32_t process; /* of a thread that lets a signal end its wait */
+	_Atomic uint64_t signal;
 };
 
 /* The entry of a wait, or NULL if it isn't listed, and by which owner it is this
@@ -119,6 +131,7 @@ struct control {
 	_Atomic uint32_t attached;
 	_Atomic uint32_t host_waits;	/* a bit for each enum host_wait */
 	_Atomic uint32_t waiters_count; /* entries that were ever taken */
+	uint64_t pid_space; /* the PID namespace of tkrun: waiters_space */
 	_Alignas(64) struct rows rows;
 	_Alignas(64) struct log log;
 	struct waiter waiters[WAITERS_MOST];
@@ -251,6 +264,11 @@ uint64_t machine_left(struct machine *machine, uint32_t clock, int64_t sec,
 int machine_sleep(struct machine *machine, uint32_t clock, int64_t sec,
 		  uint32_t nsec);
 
+/* Notes that this thread has looked at the clocks, or has waited for nothing, so often. With
+ * COUNTER_SLEEPS, a thousand looks at a counter that doesn't move take 1 us: a thread that
+ * waits in a loop would never see it move. */
+void machine_looked(struct machine *machine, uint32_t count);
+
 /* Wakes all sleepers, because the clocks have changed. */
 void machine_wake(struct machine *machine);
 
@@ -258,8 +276,8 @@ void machine_wake(struct machine *machine);
  * threads that follow the clocks for timers. */
 void machine_wake_unlisted(struct machine *machine);
 
-/* Wakes a waiter's sleeper. */
-void waiter_wake(struct waiter *waiter);
+/* Wakes a waiter's sleeper, or ends its wait by WAKE_SIGNAL. */
+void waiter_wake(struct waiter *waiter, uint64_t owner);
 
 /* Returns the thread of an owner, or minus the thread, or 0. */
 static inline int32_t owner_thread(uint64_t owner)
@@ -270,17 +288,42 @@ static inline int32_t owner_thread(uint64_t owner)
 /* Frees an entry, unless it isn't this owner's any more. */
 void waiter_free(struct waiter *waiter, uint64_t owner);
 
-/* List this thread, or another one, as waiting for a time, with COUNTER_SLEEPS. */
+/* List this thread as waiting for a time, with COUNTER_SLEEPS, or any thread with any
+ * counter. */
 struct ticket waiter_enter(struct machine *machine, uint32_t clock, int64_t sec,
 			   uint32_t nsec);
 struct ticket waiter_enter_for(struct machine *machine, int32_t thread,
 			       uint32_t clock, int64_t sec, uint32_t nsec);
 
+/* Lets WAKE_SIGNAL end the wait of a ticket of this thread. */
+void waiter_let_signal(const struct ticket *ticket);
+
+/* Lets no further signal come. Returns false if one is on its way. */
+bool waiter_let_none(const struct ticket *ticket);
+
+/* Notes in the signal's handler that it has come, so that tkrun may send the next one.
+ * Returns false if it wasn't for this ticket. */
+bool waiter_got_signal(const struct ticket *ticket);
+
+/* Returns whether tkrun may send a waiter's signal, or has sent one. */
+bool waiter_has_signal(const struct waiter *waiter, uint64_t owner);
+
+/* Returns the number of this process's PID namespace, or 0. Threads have other numbers
+ * in another one. */
+uint64_t waiters_space(void);
+
+/* Returns this thread's number. */
+static inline int32_t own_thread(void)
+{
+	return (int32_t)host_call(SYS_gettid, 0, 0, 0, 0, 0, 0);
+}
+
 /* Frees the ticket's entry, unless it was freed before. */
 void waiter_leave(struct ticket *ticket);
 
-/* Notes in a new child that it has no entries. */
+/* Notes in a new child that it has no entries, and returns how often it has. */
 void waiters_forked(void);
+uint32_t waiters_forks(void);
 
 /* Frees the entries of a thread, which has just executed a program: they are those of
  * a thread that had its number before, or of a handler. */

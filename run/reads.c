@@ -181,9 +181,11 @@ static inline bool count_read(struct machine *machine)
 
 	if (!control)
 		return false;
-	if (++own_reads % READS_IN_COUNT == 0)
+	if (++own_reads % READS_IN_COUNT == 0) {
 		atomic_fetch_add_explicit(&control->reads, READS_IN_COUNT,
 					  memory_order_relaxed);
+		machine_looked(machine, READS_IN_COUNT);
+	}
 	return control->rows.every && own_reads % control->rows.every == 0;
 }
 

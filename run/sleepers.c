@@ -134,10 +134,10 @@ bool sleepers_add(const struct sleep *sleep)
 	stopped = find_stopped(sleep->ask.pid);
 	if (stopped)
 		remove_sleeper(stopped);
-	sleeper->ticket = waiter_enter_for(clocks, (int32_t)sleep->ask.pid,
-					   (uint32_t)sleep->clock,
-					   sleep->end.tv_sec,
-					   (uint32_t)sleep->end.tv_nsec);
+	if (clocks->shared->kind == COUNTER_SLEEPS)
+		sleeper->ticket = waiter_enter_for(
+			clocks, (int32_t)sleep->ask.pid, (uint32_t)sleep->clock,
+			sleep->end.tv_sec, (uint32_t)sleep->end.tv_nsec);
 	sleeper->next = sleepers;
 	sleepers = sleeper;
 	pthread_mutex_unlock(&sleepers_lock);

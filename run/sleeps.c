@@ -7,9 +7,13 @@
 #include <sys/syscall.h>
 
 /* tkrun ignores the time of a thread that hasn't run for PASS_NANOS, and was found so PASS_LOOKS
- * times. A thread that waits for a time that has come runs at once, or after a slice of a
- * millisecond. The host's time goes on while all are stopped, and tkrun's tests don't. */
+ * times. A thread that waits for a time that has come runs at once. The host's time goes on
+ * while all are stopped, and tkrun's tests don't. */
 enum { PASS_NANOS = 1000000000, PASS_LOOKS = 16 };
+
+/* A thread may get the signal that ends its wait just before it waits, or in a handler, so it
+ * is woken again, ever more seldom. PASS_NANOS must fit between two times. */
+enum { AGAIN_NANOS = 1000000, AGAIN_TIMES = 10 };
 
 /* A waiter whose time has come, when tkrun first saw its thread not run since then. The
  * thread may be stopped. Or it has left its wait by siglongjmp or execve, and waits for
@@ -17,6 +21,7 @@ enum { PASS_NANOS = 1000000000, PASS_LOOKS = 16 };
 struct idle {
 	uint64_t owner, switches, since; /* since: the host's ns */
 	uint64_t looks;
+	uint64_t next, gap; /* when it is woken again, and the ns from then to the next time */
 	bool is_passed;
 };
 
@@ -44,27 +49,51 @@ static bool is_new(struct tree *tree, int32_t thread)
 	return !tree_scan(tree) || is_listed(tree, thread);
 }
 
+/* Returns what is known of a waiter whose time has come. */
+static struct idle *find_idle(uint32_t index, uint64_t owner)
+{
+	struct idle *idle = &idles[index];
+
+	if (idle->owner != owner)
+		*idle = (struct idle){ .owner = owner, .gap = AGAIN_NANOS };
+	return idle;
+}
+
 static bool is_passed(uint32_t index, uint64_t owner)
 {
 	return idles[index].is_passed && idles[index].owner == owner;
+}
+
+/* Wakes a waiter whose time has come, if it waits and hasn't been woken lately. */
+static void wake_again(struct waiter *waiter, struct idle *idle, uint64_t now)
+{
+	if (now < idle->next)
+		return;
+	waiter_wake(waiter, idle->owner);
+	idle->next = now + idle->gap;
+	idle->gap *= AGAIN_TIMES;
 }
 
 /* Passes over a waiter whose time has come if its thread, which was just scanned, hasn't
  * run for some time. Returns false if the thread still may act. */
 static bool pass_over(const struct run *run, uint32_t index, uint64_t owner)
 {
-	const struct waiter *waiter = &run->machine.control->waiters[index];
+	struct waiter *waiter = &run->machine.control->waiters[index];
 	const struct thread_state *state =
 		find_thread(&run->tree, abs(owner_thread(owner)));
-	struct idle *idle = &idles[index];
+	struct idle *idle = find_idle(index, owner);
 	uint64_t now = host_nanos(CLOCK_MONOTONIC);
 
 	if (!state || !state->is_waiting || sleepers_have(waiter, owner))
 		return false;
-	if (owner != idle->owner || state->switches != idle->switches)
-		*idle = (struct idle){ owner, state->switches, now, 0, false };
-	idle->is_passed = ++idle->looks > PASS_LOOKS &&
-			  now - idle->since >= PASS_NANOS;
+	wake_again(waiter, idle, now);
+	if (!idle->looks || state->switches != idle->switches) {
+		idle->switches = state->switches;
+		idle->since = now;
+		idle->looks = 0;
+	}
+	idle->is_passed |= ++idle->looks > PASS_LOOKS &&
+			   now - idle->since >= PASS_NANOS;
 	return idle->is_passed;
 }
 
@@ -109,6 +138,13 @@ static uint64_t first_waiter(struct run *run)
 	return least;
 }
 
+/* Returns whether a waiter that was passed over is left alone for now. */
+static bool is_left_alone(uint32_t index, uint64_t owner)
+{
+	return is_passed(index, owner) &&
+	       host_nanos(CLOCK_MONOTONIC) < idles[index].next;
+}
+
 /* Returns whether a thread still has to act on a time that has come. */
 static bool has_reached(struct run *run)
 {
@@ -120,8 +156,8 @@ static bool has_reached(struct run *run)
 		uint64_t owner = atomic_load(&waiter->owner);
 		int32_t thread = abs(owner_thread(owner));
 
-		if (!thread || is_passed(i, owner) ||
-		    waiter_left(run, waiter, owner))
+		if (!thread || waiter_left(run, waiter, owner) ||
+		    is_left_alone(i, owner))
 			continue;
 		if (!is_new(&run->tree, thread))
 			waiter_free(waiter, owner);
@@ -131,19 +167,61 @@ static bool has_reached(struct run *run)
 	return false;
 }
 
-/* Wakes the sleepers whose time has come. */
-static void wake_reached(struct machine *machine)
+/* Wakes the threads whose time has come. */
+static void wake_reached(struct run *run)
 {
+	struct machine *machine = &run->machine;
 	struct control *control = machine->control;
 	uint32_t count = atomic_load(&control->waiters_count);
 
 	for (uint32_t i = 0; i < count; i++) {
 		struct waiter *waiter = &control->waiters[i];
+		uint64_t owner = atomic_load(&waiter->owner);
 
-		if (owner_thread(atomic_load(&waiter->owner)) > 0 &&
-		    !machine_cycles_left(machine, waiter->clock, waiter->sec,
-					 waiter->nsec))
-			waiter_wake(waiter);
+		if (owner_thread(owner) > 0 &&
+		    !waiter_left(run, waiter, owner) && !is_passed(i, owner))
+			waiter_wake(waiter, owner);
+	}
+}
+
+/* Wakes a thread whose time has come, or frees its entry if it is gone. Returns false if
+ * there is none. */
+static bool wake_late(struct run *run, uint32_t index, uint64_t owner)
+{
+	struct waiter *waiter = &run->machine.control->waiters[index];
+	struct idle *idle = find_idle(index, owner);
+	uint64_t now = host_nanos(CLOCK_MONOTONIC);
+
+	if (now < idle->next)
+		return true;
+	if (!is_new(&run->tree, owner_thread(owner))) {
+		waiter_free(waiter, owner);
+		return false;
+	}
+	wake_again(waiter, idle, now);
+	return true;
+}
+
+void wake_changed(struct run *run)
+{
+	static bool is_any; /* has a thread been woken that still waits? */
+	static uint32_t seen;
+	struct control *control = run->machine.control;
+	uint32_t now = atomic_load(&run->machine.shared->generation),
+		 count = atomic_load(&control->waiters_count);
+
+	if (now == seen && !is_any)
+		return;
+	seen = now;
+	is_any = false;
+	for (uint32_t i = 0; i < count; i++) {
+		struct waiter *waiter = &control->waiters[i];
+		uint64_t owner = atomic_load(&waiter->owner);
+
+		if (owner_thread(owner) > 0 &&
+		    waiter_has_signal(waiter, owner) &&
+		    !waiter_left(run, waiter, owner))
+			is_any |= wake_late(run, i, owner);
 	}
 }
 
@@ -196,7 +274,7 @@ bool move_counter(struct run *run)
 	if (!machine_is_asleep(machine))
 		machine_apply(machine, &update, 1);
 	machine_unlock(machine, &saved);
-	wake_reached(machine);
+	wake_reached(run);
 	machine_wake_unlisted(machine);
 	return true;
 }

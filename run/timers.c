@@ -1,84 +1,12 @@
 /* SPDX-License-Identifier: MIT OR Apache-2.0 */
 #define _GNU_SOURCE
-#include "timers.h"
+#include "timer_host.h"
 
-#include <poll.h>
-#include <stdio.h>
-#include <sys/ioctl.h>
 #include <sys/time.h>
 #include <sys/timerfd.h>
 #include <unistd.h>
 
-#ifndef TFD_IOC_SET_TICKS /* in linux/timerfd.h */
-#define TFD_IOC_SET_TICKS _IOW('T', 0, uint64_t)
-#endif
-
-enum {
-	EXPIRY_NAP_NANOS = 20000, /* between two looks whether a timer expired */
-	EXPIRY_MOST_NANOS = 1000000000, /* the longest wait until it has */
-};
-
 enum { HELD_SEC = INT32_MAX }; /* the host's, of an alarm that doesn't expire */
-
-/* No timer is set for more than 292 years. */
-static uint64_t nanos_of(const struct timespec *span)
-{
-	if (span->tv_sec >= INT64_MAX / NANOS)
-		return INT64_MAX;
-	return (uint64_t)span->tv_sec * NANOS + (uint64_t)span->tv_nsec;
-}
-
-static struct timeval micros_of(const struct timespec *span)
-{
-	uint64_t micros = (nanos_of(span) + 999) / 1000;
-
-	return (struct timeval){ (time_t)(micros / 1000000),
-				 (suseconds_t)(micros % 1000000) };
-}
-
-/* Sets the host's timer. A span of 0 disarms it. */
-static int set_host(const struct timer *timer, uint64_t span, uint64_t period)
-{
-	struct itimerspec host = { span_of(period), span_of(span) };
-	struct itimerval micros = { micros_of(&host.it_interval),
-				    micros_of(&host.it_value) };
-
-	switch (timer->kind) {
-	case TIMER_FILE:
-		return REAL(timerfd_settime)(timer->file, 0, &host, NULL);
-	case TIMER_POSIX:
-		return REAL(timer_settime)(timer->posix, 0, &host, NULL);
-	case TIMER_ALARM:
-		return REAL(setitimer)(ITIMER_REAL, &micros, NULL);
-	default:
-		return 0;
-	}
-}
-
-/* Returns whether the host's timer, which was armed, isn't any more. */
-static bool has_expired(const struct timer *timer)
-{
-	struct itimerspec host = { 0 };
-	struct itimerval micros = { 0 };
-
-	if (timer->kind == TIMER_FILE)
-		REAL(timerfd_gettime)(timer->file, &host);
-	else if (timer->kind == TIMER_POSIX)
-		REAL(timer_gettime)(timer->posix, &host);
-	else
-		REAL(getitimer)(ITIMER_REAL, &micros);
-	return !host.it_value.tv_sec && !host.it_value.tv_nsec &&
-	       !micros.it_value.tv_sec && !micros.it_value.tv_usec;
-}
-
-/* Returns whether a file has expiries that nobody has read. The kernel forgets
- * them when the timer is set (timerfd_setup in fs/timerfd.c). */
-static bool is_unread(const struct timer *timer)
-{
-	struct pollfd file = { timer->file, POLLIN, 0 };
-
-	return timer->kind == TIMER_FILE && REAL(poll)(&file, 1, 0) > 0;
-}
 
 /* Returns the host's ns in which MONOTONIC moves on by a period. */
 static uint64_t host_period(struct machine *m, uint64_t period)
@@ -93,10 +21,19 @@ static uint64_t host_period(struct machine *m, uint64_t period)
 	return left > INT64_MAX ? 0 : left;
 }
 
-static bool has_reached(const struct tkc_time *now, const struct timespec *time)
+/* Returns by how many ns a clock is past a time, or -1. With a counter of sleeps, a timer
+ * expires when the clock is past its time, as a wait ends then. */
+static int64_t late_nanos(const struct machine *m, const struct tkc_time *now,
+			  const struct timespec *time)
 {
-	return now->sec > time->tv_sec ||
-	       (now->sec == time->tv_sec && (long)now->nsec >= time->tv_nsec);
+	int64_t least = m->shared->kind == COUNTER_SLEEPS, late;
+
+	if (now->sec < time->tv_sec)
+		return -1;
+	/* no clock reaches 2^63 ns */
+	late = (now->sec - time->tv_sec) * NANOS + (int64_t)now->nsec -
+	       time->tv_nsec;
+	return late < least ? -1 : late;
 }
 
 /* Moves `next` to the first time that the clock hasn't reached, by whole
@@ -107,62 +44,28 @@ static uint64_t skip_reached(struct machine *m, struct timer *timer)
 	uint64_t count = 1;
 	int64_t late;
 
-	if (machine_read(m, (uint32_t)timer->clock, &now) ||
-	    !has_reached(&now, &timer->next))
+	if (machine_read(m, (uint32_t)timer->clock, &now))
 		return 0;
-	/* no clock reaches 2^63 ns */
-	late = (now.sec - timer->next.tv_sec) * NANOS + (int64_t)now.nsec -
-	       timer->next.tv_nsec;
+	late = late_nanos(m, &now, &timer->next);
+	if (late < 0)
+		return 0;
 	if (timer->period) {
+		if (m->shared->kind == COUNTER_SLEEPS)
+			late--;
 		count = (uint64_t)late / timer->period + 1;
 		timer->next = later(timer->next, count * timer->period);
 	}
 	return count;
 }
 
-/* Returns the expiries of a file that nobody has read. */
-static uint64_t unread_count(const struct timer *timer)
-{
-	unsigned long long count = 0;
-	char path[64], line[128];
-	FILE *file;
-
-	if (!is_unread(timer))
-		return 0;
-	snprintf(path, sizeof(path), "/proc/self/fdinfo/%d", timer->file);
-	file = fopen(path, "re");
-	while (file && fgets(line, sizeof(line), file))
-		sscanf(line, "ticks: %llu", &count);
-	if (file)
-		fclose(file);
-	return count;
-}
-
-/* Lets a timer expire now, and waits until it has: the counter might move on
- * before its signal comes. It waits for at most a second, since the caller has
- * the lock of the timers. A kernel without TFD_IOC_SET_TICKS counts one
- * expiry. */
-static void expire(const struct timer *timer, uint64_t count)
-{
-	uint64_t until = host_nanos(CLOCK_MONOTONIC) + EXPIRY_MOST_NANOS;
-
-	count += unread_count(timer);
-	if (timer->kind == TIMER_FILE &&
-	    !ioctl(timer->file, TFD_IOC_SET_TICKS, &count))
-		return;
-	set_host(timer, 1, 0);
-	while (!has_expired(timer) && host_nanos(CLOCK_MONOTONIC) < until)
-		host_nap(EXPIRY_NAP_NANOS);
-}
-
 /* Keeps the host's timer from expiring. That of alarm outlives execve: so with a counter
  * of sleeps its interval states the time, for timers_resume. */
 static int hold_host(struct machine *m, const struct timer *timer)
 {
-	struct itimerval host = { micros_of(&timer->next), { HELD_SEC, 0 } };
+	struct itimerval host = { timer_micros(&timer->next), { HELD_SEC, 0 } };
 
 	if (timer->kind != TIMER_ALARM || m->shared->kind != COUNTER_SLEEPS)
-		return set_host(timer, 0, 0);
+		return timer_set_host(timer, 0, 0);
 	return REAL(setitimer)(ITIMER_REAL, &host, NULL);
 }
 
@@ -191,7 +94,7 @@ static void follow_sleeps(struct machine *m, struct timer *timer)
 	uint64_t count = skip_reached(m, timer);
 
 	if (count) {
-		expire(timer, count);
+		timer_expire(timer, count);
 		timer->is_armed = timer->period;
 		waiter_leave(&timer->ticket);
 		if (timer->is_armed && timer->kind == TIMER_ALARM)
@@ -214,7 +117,7 @@ static int arm(struct machine *m, struct timer *timer)
 	timer->is_held = left > INT64_MAX; /* asleep, or a counter of sleeps */
 	if (timer->is_held)
 		return hold_host(m, timer);
-	return set_host(timer, left ? left : 1, host_period(m, timer->period));
+	return timer_set_host(timer, left ? left : 1, host_period(m, timer->period));
 }
 
 /* Returns whether a timer's file was closed. Another file may have its number. */
@@ -238,11 +141,11 @@ void timer_follow(struct machine *m, struct timer *timer)
 		follow_sleeps(m, timer);
 		return;
 	}
-	if (!timer->period && !timer->is_held && has_expired(timer)) {
+	if (!timer->period && !timer->is_held && timer_has_expired(timer)) {
 		timer->is_armed = false;
 		return;
 	}
-	if (!timer->is_stale || is_unread(timer))
+	if (!timer->is_stale || timer_is_unread(timer))
 		return;
 	skip_reached(m, timer);
 	arm(m, timer);
@@ -284,10 +187,10 @@ int timer_set(struct machine *m, struct timer *timer, bool is_absolute,
 	waiter_leave(&timer->ticket);
 	timer->is_armed = in->it_value.tv_sec || in->it_value.tv_nsec;
 	if (!timer->is_armed)
-		return set_host(timer, 0, 0);
+		return timer_set_host(timer, 0, 0);
 	if (!set_next(m, timer, is_absolute, &in->it_value))
 		return refuse(EINVAL);
-	timer->period = nanos_of(&in->it_interval);
+	timer->period = timer_nanos(&in->it_interval);
 	if (!follow_start() && m->shared->kind == COUNTER_SLEEPS) {
 		timer->is_armed = false; /* nobody would let it expire */
 		return refuse(EAGAIN);

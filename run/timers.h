@@ -24,6 +24,8 @@ struct timer {
 	int own_clock; /* the clock it was created with */
 	int clock; /* the same, or MONOTONIC for a span of REALTIME or TAI */
 	timer_t posix;
+	int signal, thread; /* of a timer with a number; 0: no signal, the process */
+	uint64_t overruns;  /* since its last signal */
 	struct timespec next;
 	uint64_t period; /* ns; 0: it expires once */
 	struct ticket ticket;

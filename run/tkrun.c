@@ -42,6 +42,7 @@ static uint64_t step_clocks(struct run *run)
 	if (!machine_is_asleep(machine))
 		machine_apply(machine, &update, 1);
 	machine_unlock(machine, &saved);
+	wake_changed(run);
 	order = (double)plan_left(&run->plan, machine) *
 		shared->nanos_per_cycle;
 	return order < (double)shared->update_nanos ? (uint64_t)order

@@ -58,6 +58,9 @@ void serve_execs(struct run *run);
  * or to the next order. Returns whether it moved. */
 bool move_counter(struct run *run);
 
+/* Ends the waits whose time a command has brought, on a counter that runs. */
+void wake_changed(struct run *run);
+
 /* Starts the thread that names a process if it is stopped while it has the lock of the
  * clocks. */
 void watch_lock(struct run *run);

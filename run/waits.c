@@ -7,21 +7,29 @@
 #include <sys/syscall.h>
 #include <unistd.h>
 
-/* The longest wait before a sleeper looks again: the rate may have changed. */
-static const uint64_t LONGEST = 10 * (uint64_t)NANOS;
+/* The longest wait before a sleeper looks again: the rate may have changed. With a counter
+ * of sleeps, tkrun wakes each sleeper at its time. */
+static const uint64_t LONGEST = 10 * (uint64_t)NANOS,
+		      LONGEST_SLEEPS = 1000 * (uint64_t)NANOS;
 
 enum { DAY_SEC = 86400 };
 
-/* Returns the second at which a second of REALTIME would begin without a leap
- * second at the end of the day. */
-static int64_t without_leap(const struct machine *machine, int64_t now,
-			    int64_t sec)
+/* Returns when a time of REALTIME would come without a leap second at the end of the day.
+ * A time in a deleted second comes when that second would begin. In the day's last second,
+ * no deletion is due at its end. */
+static struct timespec without_leap(const struct machine *machine, int64_t now,
+				    struct timespec time)
 {
 	int64_t tomorrow = (now / DAY_SEC + 1) * DAY_SEC;
+	int32_t leap = atomic_load(&machine->shared->leap);
 
-	if (sec < tomorrow || sec == INT64_MAX)
-		return sec;
-	return sec + atomic_load(&machine->shared->leap);
+	if (leap < 0 && now == tomorrow - 1)
+		tomorrow += DAY_SEC;
+	if (leap < 0 && time.tv_sec == tomorrow - 1)
+		return (struct timespec){ time.tv_sec, 0 };
+	if (time.tv_sec >= tomorrow && time.tv_sec != INT64_MAX)
+		time.tv_sec += leap;
+	return time;
 }
 
 bool machine_after(struct machine *machine, int clock,
@@ -62,9 +70,22 @@ struct timespec machine_until(struct machine *machine, int clock,
 	return left;
 }
 
+/* With a counter of sleeps, a wait ends at the first reading at which the clock is past
+ * its time. On a real clock, a program that waited for a span never reads just this span,
+ * and some wait again then (Condvar::wait_timeout_while of Rust). */
+static struct timespec end_of(const struct machine *machine, int64_t sec,
+			      uint32_t nsec)
+{
+	if (machine->shared->kind != COUNTER_SLEEPS || sec == INT64_MAX)
+		return (struct timespec){ sec, nsec };
+	nsec++;
+	return (struct timespec){ sec + nsec / NANOS, nsec % NANOS };
+}
+
 uint64_t machine_cycles_left(struct machine *machine, uint32_t clock,
 			     int64_t sec, uint32_t nsec)
 {
+	struct timespec end = end_of(machine, sec, nsec);
 	uint64_t reading, then, mask = machine->shared->mask;
 	struct tkc_snapshot snapshot;
 	struct tkc_time now;
@@ -73,11 +94,13 @@ uint64_t machine_cycles_left(struct machine *machine, uint32_t clock,
 	if (machine_look(machine, &snapshot, &reading) ||
 	    tkc_snapshot_get(&now, &snapshot, clock, reading))
 		return NEVER;
-	if (now.sec > sec || (now.sec == sec && now.nsec >= nsec))
+	if (now.sec > end.tv_sec ||
+	    (now.sec == end.tv_sec && now.nsec >= end.tv_nsec))
 		return 0;
 	if (clock == TKC_CLOCK_REALTIME)
-		sec = without_leap(machine, now.sec, sec);
-	code = tkc_snapshot_reading(&then, &snapshot, clock, sec, nsec);
+		end = without_leap(machine, now.sec, end);
+	code = tkc_snapshot_reading(&then, &snapshot, clock, end.tv_sec,
+				    (uint32_t)end.tv_nsec);
 	if (code)
 		return code == TKC_FURTHER ? mask / 4 : NEVER;
 	then = (then - reading) & mask;
@@ -97,30 +120,6 @@ uint64_t machine_left(struct machine *machine, uint32_t clock, int64_t sec,
 	return (uint64_t)nanos + 1;
 }
 
-void machine_wake_unlisted(struct machine *machine)
-{
-	atomic_fetch_add(&machine->shared->generation, 1);
-	host_futex_wake(&machine->shared->generation);
-}
-
-void waiter_wake(struct waiter *waiter)
-{
-	atomic_fetch_add(&waiter->changes, 1);
-	host_futex_wake(&waiter->changes);
-}
-
-void machine_wake(struct machine *machine)
-{
-	struct control *control = machine->control;
-	uint32_t count = control ? atomic_load(&control->waiters_count) : 0;
-
-	machine_wake_unlisted(machine);
-	for (uint32_t i = 0; i < count; i++) {
-		if (owner_thread(atomic_load(&control->waiters[i].owner)))
-			waiter_wake(&control->waiters[i]);
-	}
-}
-
 /* A sleeper looks at the futex before it looks at the clocks. So if they change
  * in between, the futex doesn't let it wait. A listed sleeper isn't woken for the
  * times of others: a signal that comes while it looks wouldn't interrupt it. */
@@ -130,8 +129,8 @@ int machine_sleep(struct machine *machine, uint32_t clock, int64_t sec,
 	struct ticket ticket = waiter_enter(machine, clock, sec, nsec);
 	_Atomic uint32_t *futex = ticket.waiter ? &ticket.waiter->changes
 						: &machine->shared->generation;
+	uint64_t most = ticket.waiter ? LONGEST_SLEEPS : LONGEST, left;
 	uint32_t seen;
-	uint64_t left;
 	int error = 0;
 
 	while (error != EINTR) {
@@ -139,8 +138,8 @@ int machine_sleep(struct machine *machine, uint32_t clock, int64_t sec,
 		left = machine_left(machine, clock, sec, nsec);
 		if (!left)
 			break;
-		if (left > LONGEST)
-			left = LONGEST;
+		if (left > most)
+			left = most;
 		error = host_futex_wait(futex, seen,
 					host_nanos(CLOCK_MONOTONIC) + left);
 	}
@@ -148,109 +147,60 @@ int machine_sleep(struct machine *machine, uint32_t clock, int64_t sec,
 	return error == EINTR ? EINTR : 0;
 }
 
-/* How often a process has forked since it is one of tkrun's. */
-static uint32_t forks;
+/* A thread that looks at a counter of sleeps in a loop lets it move after LOOKS_MOST
+ * looks, by a sleep. The sleep becomes longer the longer the loop takes, by clocks that
+ * move only in these sleeps. */
+enum {
+	LOOKS_MOST = 1000,
+	SPIN_NANOS = 1000,
+	SPIN_MOST_NANOS = 100000,
+	SPIN_PART = 16, /* of what the loop has taken */
+};
 
-void waiters_forked(void)
+/* What a thread has looked at. */
+struct looks {
+	uint64_t cycles; /* of the counter, when the thread looked last */
+	uint64_t spun;	 /* ns: how long the loop has taken */
+	uint32_t count;
+};
+
+/* Sleeps for some ns. It is neither cancelled nor recorded as a read. */
+static void spin(struct machine *machine, uint64_t nanos)
 {
-	forks++;
+	struct tkc_snapshot snapshot;
+	struct tkc_time now;
+	uint64_t reading;
+	int state;
+
+	if (machine_look(machine, &snapshot, &reading) ||
+	    tkc_snapshot_get(&now, &snapshot, TKC_CLOCK_MONOTONIC, reading))
+		return;
+	nanos += now.nsec;
+	pthread_setcancelstate(PTHREAD_CANCEL_DISABLE, &state);
+	machine_sleep(machine, TKC_CLOCK_MONOTONIC,
+		      now.sec + (int64_t)(nanos / NANOS),
+		      (uint32_t)(nanos % NANOS));
+	pthread_setcancelstate(state, NULL);
 }
 
-/* Returns the same owner with another thread. */
-static uint64_t with_thread(uint64_t owner, int32_t thread)
+void machine_looked(struct machine *machine, uint32_t count)
 {
-	return (owner & ~(uint64_t)UINT32_MAX) | (uint32_t)thread;
-}
-
-/* Gives an entry from one owner to the next. Returns false if it isn't the first
- * one's any more. */
-static bool pass_on(struct waiter *waiter, uint64_t owner, uint64_t next)
-{
-	return atomic_compare_exchange_strong(&waiter->owner, &owner, next);
-}
-
-void waiter_free(struct waiter *waiter, uint64_t owner)
-{
-	pass_on(waiter, owner, with_thread(owner, 0));
-}
-
-/* Takes a free entry for a thread: for minus the thread, since the time isn't
- * written yet. */
-static struct ticket take_waiter(struct control *control, int32_t thread)
-{
-	struct ticket ticket = { .forks = forks };
-
-	for (uint32_t i = 0; i < WAITERS_MOST; i++) {
-		struct waiter *waiter = &control->waiters[i];
-		uint32_t count = atomic_load(&control->waiters_count);
-		uint64_t owner;
-
-		/* tkrun looks at this entry too, before it is taken */
-		while (count <= i &&
-		       !atomic_compare_exchange_weak(&control->waiters_count,
-						     &count, i + 1))
-			;
-		owner = atomic_load(&waiter->owner);
-		ticket.owner = with_thread(owner + (UINT64_C(1) << 32), -thread);
-		if (owner_thread(owner) || !pass_on(waiter, owner, ticket.owner))
-			continue;
-		ticket.waiter = waiter;
-		break;
-	}
-	return ticket;
-}
-
-struct ticket waiter_enter_for(struct machine *machine, int32_t thread,
-			       uint32_t clock, int64_t sec, uint32_t nsec)
-{
-	struct ticket ticket = { 0 };
-	uint64_t owner;
+	static _Thread_local struct looks looks;
+	uint64_t cycles, span;
 
 	if (machine->shared->kind != COUNTER_SLEEPS || !machine->control)
-		return ticket;
-	ticket = take_waiter(machine->control, thread);
-	if (!ticket.waiter) {
-		atomic_fetch_or(&machine->control->host_waits,
-				1U << HOST_UNLISTED);
-		return ticket;
-	}
-	ticket.waiter->clock = clock;
-	ticket.waiter->sec = sec;
-	ticket.waiter->nsec = nsec;
-	owner = with_thread(ticket.owner, thread);
-	if (pass_on(ticket.waiter, ticket.owner, owner))
-		ticket.owner = owner;
-	return ticket;
-}
-
-struct ticket waiter_enter(struct machine *machine, uint32_t clock, int64_t sec,
-			   uint32_t nsec)
-{
-	if (machine->shared->kind != COUNTER_SLEEPS)
-		return (struct ticket){ 0 };
-	return waiter_enter_for(
-		machine, (int32_t)host_call(SYS_gettid, 0, 0, 0, 0, 0, 0),
-		clock, sec, nsec);
-}
-
-void waiters_forget(struct machine *machine, int32_t thread)
-{
-	struct control *control = machine->control;
-	uint32_t count = control ? atomic_load(&control->waiters_count) : 0;
-
-	for (uint32_t i = 0; i < count; i++) {
-		struct waiter *waiter = &control->waiters[i];
-		uint64_t owner = atomic_load(&waiter->owner);
-		int32_t found = owner_thread(owner);
-
-		if (found == thread || found == -thread)
-			waiter_free(waiter, owner);
-	}
-}
-
-void waiter_leave(struct ticket *ticket)
-{
-	if (ticket->waiter && ticket->forks == forks)
-		waiter_free(ticket->waiter, ticket->owner);
-	ticket->waiter = NULL;
+		return;
+	cycles = atomic_load(&machine->shared->cycles);
+	if (cycles != looks.cycles)
+		looks = (struct looks){ .cycles = cycles };
+	looks.count += count;
+	if (looks.count < LOOKS_MOST)
+		return;
+	span = looks.spun / SPIN_PART;
+	span = span < SPIN_NANOS ? SPIN_NANOS : span;
+	span = span > SPIN_MOST_NANOS ? SPIN_MOST_NANOS : span;
+	spin(machine, span);
+	looks.cycles = atomic_load(&machine->shared->cycles);
+	looks.spun += span;
+	looks.count = 0;
 }

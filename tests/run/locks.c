@@ -1,0 +1,320 @@
+/* SPDX-License-Identifier: MIT OR Apache-2.0 */
+/*
+ * Waits for locks, condition variables, threads and futexes for a span, and prints what
+ * spans.c prints. A wait for a condition variable is made by one call.
+ */
+#define _GNU_SOURCE
+#include "spans.h"
+
+#include <linux/futex.h>
+#include <pthread.h>
+#include <semaphore.h>
+#include <sys/syscall.h>
+#include <threads.h>
+
+#ifndef FUTEX_LOCK_PI2
+#define FUTEX_LOCK_PI2 13
+#endif
+#ifndef SYS_futex_waitv
+#define SYS_futex_waitv 449
+#endif
+
+/* Returns 0 for the error that says that the time has come. */
+static int at_time(int error)
+{
+	return error == ETIMEDOUT ? 0 : error ? error : EPROTO;
+}
+
+static int by_sem_timedwait(int64_t span, int64_t *left)
+{
+	struct timespec time = after(CLOCK_REALTIME, span);
+	sem_t semaphore;
+
+	(void)left;
+	sem_init(&semaphore, 0, 0);
+	return error_of(sem_timedwait(&semaphore, &time), ETIMEDOUT);
+}
+
+static int by_sem_clockwait(int64_t span, int64_t *left)
+{
+	struct timespec time = after(CLOCK_MONOTONIC, span);
+	sem_t semaphore;
+
+	(void)left;
+	sem_init(&semaphore, 0, 0);
+	return error_of(sem_clockwait(&semaphore, CLOCK_MONOTONIC, &time),
+			ETIMEDOUT);
+}
+
+static pthread_mutex_t mutex = PTHREAD_MUTEX_INITIALIZER;
+static pthread_cond_t cond = PTHREAD_COND_INITIALIZER;
+
+static int by_cond_timedwait(int64_t span, int64_t *left)
+{
+	struct timespec time = after(CLOCK_REALTIME, span);
+
+	(void)left;
+	pthread_mutex_lock(&mutex);
+	return at_time(pthread_cond_timedwait(&cond, &mutex, &time));
+}
+
+static int by_monotonic_cond(int64_t span, int64_t *left)
+{
+	struct timespec time = after(CLOCK_MONOTONIC, span);
+	pthread_condattr_t attributes;
+	pthread_cond_t own;
+
+	(void)left;
+	pthread_condattr_init(&attributes);
+	pthread_condattr_setclock(&attributes, CLOCK_MONOTONIC);
+	pthread_cond_init(&own, &attributes);
+	pthread_mutex_lock(&mutex);
+	return at_time(pthread_cond_timedwait(&own, &mutex, &time));
+}
+
+static int by_cond_clockwait(int64_t span, int64_t *left)
+{
+	struct timespec time = after(CLOCK_MONOTONIC, span);
+
+	(void)left;
+	pthread_mutex_lock(&mutex);
+	return at_time(pthread_cond_clockwait(&cond, &mutex, CLOCK_MONOTONIC,
+					      &time));
+}
+
+static int by_cnd_timedwait(int64_t span, int64_t *left)
+{
+	struct timespec time = after(CLOCK_REALTIME, span);
+	mtx_t lock;
+	cnd_t own;
+
+	(void)left;
+	mtx_init(&lock, mtx_plain);
+	cnd_init(&own);
+	mtx_lock(&lock);
+	return cnd_timedwait(&own, &lock, &time) == thrd_timedout ? 0 : EPROTO;
+}
+
+/* The locks are taken already, so each wait for them ends by its time. */
+static int by_mutex_timedlock(int64_t span, int64_t *left)
+{
+	struct timespec time = after(CLOCK_REALTIME, span);
+
+	(void)left;
+	pthread_mutex_lock(&mutex);
+	return at_time(pthread_mutex_timedlock(&mutex, &time));
+}
+
+static int by_mutex_clocklock(int64_t span, int64_t *left)
+{
+	struct timespec time = after(CLOCK_MONOTONIC, span);
+
+	(void)left;
+	pthread_mutex_lock(&mutex);
+	return at_time(
+		pthread_mutex_clocklock(&mutex, CLOCK_MONOTONIC, &time));
+}
+
+static int by_mtx_timedlock(int64_t span, int64_t *left)
+{
+	struct timespec time = after(CLOCK_REALTIME, span);
+	mtx_t taken;
+
+	(void)left;
+	mtx_init(&taken, mtx_timed);
+	mtx_lock(&taken);
+	return mtx_timedlock(&taken, &time) == thrd_timedout ? 0 : EPROTO;
+}
+
+/* What another thread holds. */
+static pthread_mutex_t inheriting;
+static pthread_rwlock_t rwlock = PTHREAD_RWLOCK_INITIALIZER;
+static uint32_t word;
+
+static void *hold(void *unused)
+{
+	pthread_mutex_lock(&inheriting);
+	pthread_rwlock_wrlock(&rwlock);
+	syscall(SYS_futex, &word, FUTEX_LOCK_PI, 0, NULL, NULL, 0);
+	pause();
+	return unused;
+}
+
+/* Starts a thread that holds all of these. Signals are the main thread's. */
+static pthread_t start_holder(void)
+{
+	pthread_mutexattr_t attributes;
+	sigset_t all, saved;
+	pthread_t thread;
+
+	pthread_mutexattr_init(&attributes);
+	pthread_mutexattr_setprotocol(&attributes, PTHREAD_PRIO_INHERIT);
+	pthread_mutex_init(&inheriting, &attributes);
+	sigfillset(&all);
+	pthread_sigmask(SIG_SETMASK, &all, &saved);
+	pthread_create(&thread, NULL, hold, NULL);
+	pthread_sigmask(SIG_SETMASK, &saved, NULL);
+	while (!__atomic_load_n(&word, __ATOMIC_ACQUIRE))
+		sched_yield();
+	return thread;
+}
+
+static int by_inheriting_mutex(int64_t span, int64_t *left)
+{
+	struct timespec time;
+
+	(void)left;
+	start_holder();
+	time = after(CLOCK_REALTIME, span);
+	return at_time(pthread_mutex_timedlock(&inheriting, &time));
+}
+
+static int by_timedrdlock(int64_t span, int64_t *left)
+{
+	struct timespec time;
+
+	(void)left;
+	start_holder();
+	time = after(CLOCK_REALTIME, span);
+	return at_time(pthread_rwlock_timedrdlock(&rwlock, &time));
+}
+
+static int by_timedwrlock(int64_t span, int64_t *left)
+{
+	struct timespec time;
+
+	(void)left;
+	start_holder();
+	time = after(CLOCK_REALTIME, span);
+	return at_time(pthread_rwlock_timedwrlock(&rwlock, &time));
+}
+
+static int by_clockrdlock(int64_t span, int64_t *left)
+{
+	struct timespec time;
+
+	(void)left;
+	start_holder();
+	time = after(CLOCK_MONOTONIC, span);
+	return at_time(
+		pthread_rwlock_clockrdlock(&rwlock, CLOCK_MONOTONIC, &time));
+}
+
+static int by_clockwrlock(int64_t span, int64_t *left)
+{
+	struct timespec time;
+
+	(void)left;
+	start_holder();
+	time = after(CLOCK_MONOTONIC, span);
+	return at_time(
+		pthread_rwlock_clockwrlock(&rwlock, CLOCK_MONOTONIC, &time));
+}
+
+static int by_timedjoin(int64_t span, int64_t *left)
+{
+	pthread_t thread = start_holder();
+	struct timespec time = after(CLOCK_REALTIME, span);
+
+	(void)left;
+	return at_time(pthread_timedjoin_np(thread, NULL, &time));
+}
+
+static int by_clockjoin(int64_t span, int64_t *left)
+{
+	pthread_t thread = start_holder();
+	struct timespec time = after(CLOCK_MONOTONIC, span);
+
+	(void)left;
+	return at_time(pthread_clockjoin_np(thread, NULL, CLOCK_MONOTONIC,
+					    &time));
+}
+
+static int by_futex(int64_t span, int64_t *left)
+{
+	struct timespec time = span_of(span);
+
+	(void)left;
+	return error_of((int)syscall(SYS_futex, &word, FUTEX_WAIT_PRIVATE, 0,
+				     &time, NULL, 0),
+			ETIMEDOUT);
+}
+
+static int by_futex_bitset(int64_t span, int64_t *left)
+{
+	struct timespec time = after(CLOCK_REALTIME, span);
+
+	(void)left;
+	return error_of((int)syscall(SYS_futex, &word,
+				     FUTEX_WAIT_BITSET | FUTEX_CLOCK_REALTIME,
+				     0, &time, NULL, FUTEX_BITSET_MATCH_ANY),
+			ETIMEDOUT);
+}
+
+/* The kernel restarts this call after a signal. */
+static int by_futex_lock_pi(int64_t span, int64_t *left)
+{
+	struct timespec time;
+
+	(void)left;
+	start_holder();
+	time = after(CLOCK_REALTIME, span);
+	return error_of((int)syscall(SYS_futex, &word, FUTEX_LOCK_PI, 0, &time,
+				     NULL, 0),
+			ETIMEDOUT);
+}
+
+static int by_futex_lock_pi2(int64_t span, int64_t *left)
+{
+	struct timespec time;
+
+	(void)left;
+	start_holder();
+	time = after(CLOCK_MONOTONIC, span);
+	return error_of((int)syscall(SYS_futex, &word, FUTEX_LOCK_PI2, 0,
+				     &time, NULL, 0),
+			ETIMEDOUT);
+}
+
+static int by_futex_waitv(int64_t span, int64_t *left)
+{
+	struct timespec time = after(CLOCK_MONOTONIC, span);
+	struct {
+		uint64_t value, address;
+		uint32_t flags, reserved;
+	} one = { 0, (uintptr_t)&word, 2 /* 32 bits */, 0 };
+
+	(void)left;
+	return error_of((int)syscall(SYS_futex_waitv, &one, 1, 0, &time,
+				     CLOCK_MONOTONIC),
+			ETIMEDOUT);
+}
+
+static const struct span_wait WAITS[] = {
+	{ "sem_timedwait", by_sem_timedwait },
+	{ "sem_clockwait", by_sem_clockwait },
+	{ "cond_timedwait", by_cond_timedwait },
+	{ "monotonic_cond", by_monotonic_cond },
+	{ "cond_clockwait", by_cond_clockwait },
+	{ "cnd_timedwait", by_cnd_timedwait },
+	{ "mutex_timedlock", by_mutex_timedlock },
+	{ "mutex_clocklock", by_mutex_clocklock },
+	{ "inheriting_mutex", by_inheriting_mutex },
+	{ "mtx_timedlock", by_mtx_timedlock },
+	{ "timedrdlock", by_timedrdlock },
+	{ "timedwrlock", by_timedwrlock },
+	{ "clockrdlock", by_clockrdlock },
+	{ "clockwrlock", by_clockwrlock },
+	{ "timedjoin", by_timedjoin },
+	{ "clockjoin", by_clockjoin },
+	{ "futex", by_futex },
+	{ "futex_bitset", by_futex_bitset },
+	{ "futex_lock_pi", by_futex_lock_pi },
+	{ "futex_lock_pi2", by_futex_lock_pi2 },
+	{ "futex_waitv", by_futex_waitv },
+};
+
+int main(int count, char **words)
+{
+	return make_spans(WAITS, sizeof(WAITS) / sizeof(*WAITS), count, words);
+}

@@ -1,0 +1,92 @@
+/* SPDX-License-Identifier: MIT OR Apache-2.0 */
+/*
+ * Lets a timer with a period of 0.25 s expire while its signal is blocked, and prints the
+ * overruns: those that the handler gets, and those of timer_getoverrun. A process gets the
+ * signals of the first timer, and a thread those of the second one.
+ */
+#define _GNU_SOURCE
+#include <signal.h>
+#include <stdint.h>
+#include <stdio.h>
+#include <sys/syscall.h>
+#include <sys/timerfd.h>
+#include <time.h>
+#include <unistd.h>
+
+#ifndef sigev_notify_thread_id
+#define sigev_notify_thread_id _sigev_un._tid
+#endif
+
+static const struct itimerspec PERIOD = { { 0, 250000000 }, { 0, 250000000 } };
+static volatile sig_atomic_t signals, overruns;
+
+static void count(int number, siginfo_t *info, void *context)
+{
+	(void)number;
+	(void)context;
+	signals++;
+	overruns += info->si_overrun;
+}
+
+static void nap(long millis)
+{
+	struct timespec span = { millis / 1000, millis % 1000 * 1000000 };
+
+	nanosleep(&span, NULL);
+}
+
+static void print_next(timer_t timer, const sigset_t *set)
+{
+	siginfo_t info = { 0 };
+	int number = sigwaitinfo(set, &info);
+
+	printf("got %d overrun %d %d\n", number == SIGUSR1, info.si_overrun,
+	       timer_getoverrun(timer));
+}
+
+static void print_timer(int notify)
+{
+	struct sigevent event = { .sigev_notify = notify,
+				  .sigev_signo = SIGUSR1 };
+	timer_t timer;
+	sigset_t set;
+
+	event.sigev_notify_thread_id = (int)syscall(SYS_gettid);
+	sigemptyset(&set);
+	sigaddset(&set, SIGUSR1);
+	sigprocmask(SIG_BLOCK, &set, NULL);
+	signals = overruns = 0;
+	if (timer_create(CLOCK_MONOTONIC, &event, &timer) ||
+	    timer_settime(timer, 0, &PERIOD, NULL))
+		perror("overruns");
+	nap(1100);
+	sigprocmask(SIG_UNBLOCK, &set, NULL);
+	printf("signals %d si_overrun %d getoverrun %d\n", signals, overruns,
+	       timer_getoverrun(timer));
+	sigprocmask(SIG_BLOCK, &set, NULL);
+	nap(300);
+	print_next(timer, &set);
+	nap(700);
+	print_next(timer, &set);
+	timer_delete(timer);
+}
+
+int main(void)
+{
+	struct sigaction action = { .sa_sigaction = count,
+				    .sa_flags = SA_SIGINFO };
+	int file = timerfd_create(CLOCK_MONOTONIC, 0);
+	uint64_t expiries;
+
+	sigaction(SIGUSR1, &action, NULL);
+	print_timer(SIGEV_SIGNAL);
+	print_timer(SIGEV_THREAD_ID);
+	timerfd_settime(file, 0, &PERIOD, NULL);
+	for (int millis = 1100; millis; millis = millis == 1100 ? 100 : 0) {
+		nap(millis);
+		if (read(file, &expiries, sizeof(expiries)) < 0)
+			perror("overruns");
+		printf("timerfd %d\n", (int)expiries);
+	}
+	return 0;
+}
