@@ -29,7 +29,8 @@ static const char USAGE[] =
 	"  --deny-set                calls that set the clocks get EPERM\n"
 	"  --stamps                  converts the kernel's stamps of packets\n"
 	"  --log FILE                writes a line for each call that sets the clocks\n"
-	"  --static                  answers programs without the library too\n"
+	"  --lax                     a program on the host's clocks doesn't end the run\n"
+	"  --static                  starts nothing if tkrun can't answer system calls\n"
 	"  --quiet                   prints no summary\n";
 
 void fail(int status, const char *form, ...)
@@ -175,6 +176,8 @@ static void parse_option(struct options *o, const char *name)
 		o->log = value;
 	else if (!strcmp(name, "static"))
 		o->is_static = true;
+	else if (!strcmp(name, "lax"))
+		o->is_lax = true;
 	else if (!strcmp(name, "quiet"))
 		o->is_quiet = true;
 	o->has_ahead |= !strcmp(name, "ahead");
@@ -228,7 +231,8 @@ void parse_options(int count, char **words, struct options *options)
 		{ "check", 0, 0, 0 },	  { "deny-set", 0, 0, 0 },
 		{ "stamps", 0, 0, 0 },	  { "log", 1, 0, 0 },
 		{ "static", 0, 0, 0 },	  { "quiet", 0, 0, 0 },
-		{ "help", 0, 0, 'h' },	  { "version", 0, 0, 'v' },
+		{ "lax", 0, 0, 0 },	  { "help", 0, 0, 'h' },
+		{ "version", 0, 0, 'v' },
 		{ 0, 0, 0, 0 },
 	};
 	int letter, index;

@@ -2,6 +2,7 @@
 /* What tkrun prints at the end of a run. */
 #define _GNU_SOURCE
 #include "tkrun.h"
+#include "uncovered.h"
 
 #include <inttypes.h>
 #include <stdio.h>
@@ -46,8 +47,12 @@ void print_summary(const struct run *run)
 			"tkrun: took over %" PRIu64
 			" times from a process that died amid a command\n",
 			control->recovered);
-	exec_print_missed();
-	print_host_waits(control);
+}
+
+void print_faults(const struct run *run)
+{
+	uncovered_print_rest();
+	print_host_waits(run->machine.control);
 }
 
 void print_log(const struct run *run)
