@@ -26,15 +26,19 @@ void *real_call(const char *name)
 }
 
 /* Finds out how the host's clocks are read. In a program whose vDSO tkrun has replaced, the C
- * library's function reads the clocks of tkrun. */
+ * library's function reads the clocks of tkrun. If a debugger traces the program, tkrun couldn't
+ * replace it. */
 static void find_host_clock(uint64_t vdso)
 {
 	const union image_head *image = image_head_of(vdso);
+	bool has_kernels = own.shared->has_filter && vdso && !image;
 
 	if (image)
 		host_gettime = image->gettime;
-	if (own.shared->calls_host || !vdso || !host_gettime)
+	if (own.shared->calls_host || !vdso || has_kernels || !host_gettime)
 		host_gettime = host_gettime_by_call;
+	if (has_kernels && !vdso_make_calls(vdso))
+		note_host(&own, HOST_VDSO);
 }
 
 /* Counts the program, unless tkrun has done it. */

@@ -28,6 +28,10 @@ void *real_call(const char *name);
 /* Returns the clocks of this process, or NULL. */
 struct machine *machine(void);
 
+/* Lets the functions of the kernel's vDSO make system calls, so that tkrun answers them. Returns
+ * false if they can't be changed. */
+bool vdso_make_calls(uint64_t vdso);
+
 /* Sets errno and returns -1. */
 int refuse(int error);
 

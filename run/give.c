@@ -7,6 +7,7 @@
 #define _GNU_SOURCE
 #include "image.h"
 #include "status.h"
+#include "symbols.h"
 
 #include <elf.h>
 #include <errno.h>
@@ -42,59 +43,6 @@ static union image_head head;
 static bool is_offered;
 static uint64_t filters; /* of a program that has added none */
 
-/* The vDSO of tkrun itself: its segment's size, and its dynamic section. */
-struct segment {
-	const char *base;
-	size_t size;
-	const Elf64_Dyn *dynamic;
-};
-
-static struct segment find_segment(void)
-{
-	struct segment found = { (const char *)getauxval(AT_SYSINFO_EHDR), 0,
-				 NULL };
-	const Elf64_Ehdr *start = (const Elf64_Ehdr *)found.base;
-
-	for (int i = 0; start && i < start->e_phnum; i++) {
-		const Elf64_Phdr *part =
-			(const Elf64_Phdr *)(found.base + start->e_phoff) + i;
-
-		if (part->p_type == PT_LOAD)
-			found.size = part->p_memsz;
-		if (part->p_type == PT_DYNAMIC)
-			found.dynamic = (const Elf64_Dyn *)(found.base +
-							    part->p_offset);
-	}
-	return found;
-}
-
-static uint64_t find_dynamic(const struct segment *segment, int64_t tag)
-{
-	for (const Elf64_Dyn *entry = segment->dynamic;
-	     entry && entry->d_tag != DT_NULL; entry++) {
-		if (entry->d_tag == tag)
-			return entry->d_un.d_ptr;
-	}
-	return 0;
-}
-
-/* Returns the place of a function, or 0. The names follow the symbols. */
-static uint64_t find_function(const struct segment *segment, const char *name)
-{
-	uint64_t names = find_dynamic(segment, DT_STRTAB);
-	uint64_t at = find_dynamic(segment, DT_SYMTAB);
-
-	for (; at && at + sizeof(Elf64_Sym) <= names; at += sizeof(Elf64_Sym)) {
-		const Elf64_Sym *symbol =
-			(const Elf64_Sym *)(segment->base + at);
-
-		if (symbol->st_shndx != SHN_UNDEF &&
-		    !strcmp(segment->base + names + symbol->st_name, name))
-			return symbol->st_value;
-	}
-	return 0;
-}
-
 static uint64_t filter_count(int process)
 {
 	char status[STATUS_BYTES];
@@ -104,19 +52,21 @@ static uint64_t filter_count(int process)
 	return status_number(status, "Seccomp_filters", 10);
 }
 
+/* The vDSO is that of tkrun itself. */
 static void find_functions(const struct segment *segment)
 {
-	vdso.gettime = find_function(segment, "__vdso_clock_gettime");
-	vdso.getcpu = find_function(segment, "__vdso_getcpu");
-	vdso.getrandom = find_function(segment, "__vdso_getrandom");
+	vdso.gettime = segment_function(segment, "__vdso_clock_gettime");
+	vdso.getcpu = segment_function(segment, "__vdso_getcpu");
+	vdso.getrandom = segment_function(segment, "__vdso_getrandom");
 	vdso.sgx_enter_enclave =
-		find_function(segment, "__vdso_sgx_enter_enclave");
+		segment_function(segment, "__vdso_sgx_enter_enclave");
 }
 
 void image_offer(const struct machine *machine)
 {
 	bool calls_host = machine->shared->calls_host;
-	struct segment segment = find_segment();
+	struct segment segment =
+		segment_at(getauxval(AT_SYSINFO_EHDR));
 	const char *call = segment.size ? memmem(segment.base, segment.size,
 						 "\x0f\x05", 2)
 					: NULL;

@@ -89,6 +89,7 @@ enum host_wait {
 	HOST_MESSAGES,
 	HOST_FUTEX,
 	HOST_ASYNCHRONOUS,
+	HOST_VDSO, /* its functions may be read, though they aren't waits */
 	HOST_WAITS,
 };
 

@@ -23,6 +23,8 @@ static void print_host_waits(const struct control *control)
 			"FUTEX_WAIT_REQUEUE_PI waited by the host's time",
 		[HOST_ASYNCHRONOUS] =
 			"io_uring or io_getevents waits by the host's time",
+		[HOST_VDSO] =
+			"a program that another one traces may have read the host's clocks by its vDSO",
 	};
 
 	for (int i = 0; i < HOST_WAITS; i++) {

@@ -194,7 +194,10 @@ class Covered(RunTest):
         self.covered("env", "-i", "/bin/sh", "-c", "PATH=/nowhere:/bin:/usr/bin; exec date +%s")
 
     def test_a_traced_program_with_the_library(self):
-        self.covered(program("traced"), "date", "+%s")
+        for options in [[], ["--counter", "tsc"], ["--record", self.folder / "r"]]:
+            with self.subTest(options):
+                self.assertEqual(self.run_on(*options, "--start", START, "--", program("traced"),
+                                             program("vdso")), "")
 
 
 @unittest.skipUnless(CAN_FILTER, "the kernel lets no filter ask tkrun")
