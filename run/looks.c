@@ -13,7 +13,13 @@
 #include <string.h>
 #include <unistd.h>
 
-enum { PROGRAMS_MOST = 1024, ADDED_MOST = 64, STAT_BYTES = 1024 };
+enum {
+	PROGRAMS_MOST = 1024,
+	ADDED_MOST = 64,
+	STAT_BYTES = 1024,
+	LOOKS_LEAST = 2,   /* until a program that has no clocks is named */
+	LOOKS_LOADED = 10, /* the same if it has loaded the library */
+};
 
 static char page[NAME_MAX]; /* how the name of the page ends, wherever its folder is mounted */
 
@@ -44,6 +50,7 @@ static bool is_added(pid_t process)
 struct program {
 	int32_t process;
 	uint64_t began, stack;
+	unsigned int looks;
 	bool is_known; /* it has the clocks, or was named */
 };
 
@@ -73,13 +80,13 @@ static bool read_program(int32_t process, struct program *program)
 	if (!name_end || strchr("ZX", name_end[2]))
 		return false;
 	*program = (struct program){ process, stat_number(text, 19),
-				     stat_number(text, 25), false };
+				     stat_number(text, 25), 0, false };
 	return true;
 }
 
 /* Returns the entry of the program that a process runs now, a new one if it
  * wasn't seen yet, or NULL. */
-static struct program *find_program(int32_t process, bool *is_new)
+static struct program *find_program(int32_t process)
 {
 	static struct program seen[PROGRAMS_MOST];
 	static size_t next;
@@ -87,37 +94,61 @@ static struct program *find_program(int32_t process, bool *is_new)
 
 	if (!read_program(process, &now))
 		return NULL;
-	*is_new = false;
 	for (size_t i = 0; i < PROGRAMS_MOST; i++) {
 		if (seen[i].process == process && seen[i].began == now.began &&
 		    seen[i].stack == now.stack)
 			return &seen[i];
 	}
-	*is_new = true;
 	seen[next] = now;
 	next = (next + 1) % PROGRAMS_MOST;
 	return &seen[(next + PROGRAMS_MOST - 1) % PROGRAMS_MOST];
 }
 
-/* Returns why a process has no clocks, or NULL if it has them, or has ended. */
-static const char *find_fault(int32_t process)
+/* What a process has mapped. */
+struct mapped {
+	bool is_readable; /* by tkrun */
+	bool has_file, has_clocks, has_loader, has_library, has_others;
+};
+
+static struct mapped read_maps(int32_t process)
 {
-	bool has_clocks = false, is_empty = true;
+	struct mapped mapped = { 0 };
 	char path[64], line[PATH_MAX + 128];
 	FILE *file;
 
 	snprintf(path, sizeof(path), "/proc/%d/maps", process);
 	file = fopen(path, "re");
-	if (!file && errno == EACCES)
-		return "it may not be looked at, and may be setuid";
-	while (file && !has_clocks && fgets(line, sizeof(line), file)) {
-		is_empty = false;
-		has_clocks = strstr(line, page);
+	mapped.is_readable = file || errno != EACCES;
+	while (file && fgets(line, sizeof(line), file)) {
+		const char *name = strrchr(line, '/');
+
+		mapped.has_file |= name != NULL;
+		mapped.has_clocks |= strstr(line, page) != NULL;
+		if (name && !strncmp(name, "/ld-", 4))
+			mapped.has_loader = true;
+		else if (name && !strncmp(name, "/libtkrun.so", 12))
+			mapped.has_library = true;
+		else if (name && strstr(name, ".so"))
+			mapped.has_others = true;
 	}
 	if (file)
 		fclose(file);
-	return has_clocks || is_empty ? NULL
-				      : "it hasn't loaded the library";
+	return mapped;
+}
+
+/* Returns why a process has no clocks, or NULL if it has them, has ended, or may still load the
+ * library. The loader maps the library before all others, and lets it begin after these. */
+static const char *find_fault(const struct program *program, const struct mapped *mapped)
+{
+	if (!mapped->is_readable)
+		return "it may not be looked at, and may be setuid";
+	if (mapped->has_clocks || !mapped->has_file)
+		return NULL;
+	if (mapped->has_library)
+		return program->looks < LOOKS_LOADED ? NULL : "its library finds no clocks";
+	if (mapped->has_loader && !mapped->has_others)
+		return NULL;
+	return "it hasn't loaded the library";
 }
 
 /* Returns whether a process is below a tkrun inside this one, which looks at it. */
@@ -137,15 +168,16 @@ static bool is_inside(int32_t process)
 
 static void look_at(int32_t process)
 {
-	bool is_new;
-	struct program *program = find_program(process, &is_new);
+	struct program *program = find_program(process);
+	struct mapped mapped;
 	const char *fault;
 
-	if (!program || is_new || program->is_known)
+	if (!program || program->is_known || ++program->looks < LOOKS_LEAST)
 		return;
-	program->is_known = true;
-	fault = is_inside(process) ? NULL : find_fault(process);
-	if (fault)
+	mapped = read_maps(process);
+	fault = find_fault(program, &mapped);
+	program->is_known = fault || mapped.has_clocks || is_inside(process);
+	if (fault && !is_inside(process))
 		uncovered_note_process(process, fault);
 }
 

@@ -12,6 +12,7 @@ TKRUN = os.environ.get("TKRUN_PROGRAM", str(ROOT / "dist/bin/tkrun"))
 PROGRAMS = os.environ.get("TKRUN_TESTS", str(ROOT / "dist/tests"))  # tools/check_run compiles them
 SECONDS = 120  # the longest that a run may take
 
+CALLS = {"openat": "257", "ptrace": "101", "seccomp": "317"}  # the numbers of system calls
 STILL = ["--counter", "sleeps"]  # no time passes while programs compute
 OTHER = ["setpriv", "--reuid", "65531", "--regid", "65531", "--clear-groups"]  # another user
 IS_ROOT = os.geteuid() == 0

@@ -7,7 +7,7 @@ import subprocess
 import time
 import unittest
 
-from runs import (CAN_FILTER, CAN_TRACE, LINUX, OTHER, STILL, TKRUN, RunTest, call, needs,
+from runs import (CALLS, CAN_FILTER, CAN_TRACE, LINUX, OTHER, STILL, TKRUN, RunTest, call, needs,
                   needs_root, program)
 
 GO = """package main
@@ -93,7 +93,7 @@ class Static(RunTest):
         self.assertEqual((run.returncode, run.stdout), (0, ""), run.stderr)
 
     def test_a_filter_of_the_programs_own(self):
-        self.reads_by_calls(program("filtered"), program("static_reads"))
+        self.reads_by_calls(program("filtered"), "kill", CALLS["openat"], program("static_reads"))
 
     @needs_root("changes the root")
     def test_another_root(self):

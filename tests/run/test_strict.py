@@ -6,7 +6,7 @@ import shutil
 import subprocess
 import unittest
 
-from runs import (CAN_FILTER, CAN_TRACE, OTHER, STILL, TKRUN, RunTest, call, needs,
+from runs import (CALLS, CAN_FILTER, CAN_TRACE, OTHER, STILL, TKRUN, RunTest, call, needs,
                   needs_mounts, needs_root, program)
 
 START = 1000000000
@@ -52,10 +52,13 @@ class Covered(RunTest):
 
     def test_the_vdso(self):
         for options in [STILL, ["--counter", "tsc"], ["--record", self.folder / "r"]]:
-            for command in [["vdso"], ["static_vdso", "static"]]:
-                with self.subTest(options=options, command=command):
-                    self.assertEqual(self.run_on(*options, "--start", START, "--",
-                                                 program(command[0]), *command[1:]), "")
+            for name in ["vdso", "static_vdso"]:
+                with self.subTest(options=options, name=name):
+                    self.assertEqual(self.run_on(*options, "--start", START, "--", program(name)),
+                                     "")
+
+    def test_functions_of_the_c_library_by_name(self):
+        self.assertEqual(self.run_on("--start", START, "--", program("named")), "")
 
     def test_the_vdso_on_a_host_whose_vdso_reads_no_clock(self):
         run = call([program("novdso"), TKRUN, "--quiet", "--start", str(START), "--",
@@ -112,7 +115,7 @@ class Covered(RunTest):
     def test_short_children(self):
         static = program("static_vdso")
         self.assertEqual(self.run_on("--start", START, "--", "bash", "-c",
-                                     f"for i in 1 2 3; do {static} static || exit; done; echo ok"),
+                                     f"for i in 1 2 3; do {static} || exit; done; echo ok"),
                          "ok\n")
 
     @needs_mounts("hides /dev/shm")
@@ -143,8 +146,8 @@ class Covered(RunTest):
         root = self.make_root("date", "env")
         shutil.copy(program("static_vdso"), root / "static_vdso")
         run = self.start("--quiet", *STILL, "--start", START, "--", "bash", "-c",
-                         f"chroot {root} {shutil.which('date')} +%s; chroot {root} /static_vdso "
-                         f"static; chroot {root} {shutil.which('env')} -i {shutil.which('date')} +%s")
+                         f"chroot {root} {shutil.which('date')} +%s; chroot {root} /static_vdso; "
+                         f"chroot {root} {shutil.which('env')} -i {shutil.which('date')} +%s")
         self.assertEqual((run.returncode, run.stdout.split()), (0, [str(START)] * 2))
         self.assertNotIn("tkrun: ", run.stderr)
 
@@ -234,13 +237,13 @@ class Uncovered(RunTest):
     def test_what_cannot_be_traced(self):
         static = program("static_vdso")
         line = f"^tkrun: '{static}' .process [0-9]+. reads the host's clocks: it can't be traced"
-        self.ends(line, program("traced"), static, "static")
-        self.goes_on(line, program("traced"), static, "static")
+        self.ends(line, program("traced"), static)
+        self.goes_on(line, program("traced"), static)
         self.ends("^tkrun: '/bin/date' ", program("traced"), "/usr/bin/env", "-i", "/bin/date")
 
     def test_a_warning_names_each_program_once(self):
         folder, traced = os.path.dirname(program("vdso")), program("traced")
-        command = f"cd {folder}; for i in 1 2 3; do {traced} ./static_vdso static >&2; done"
+        command = f"cd {folder}; for i in 1 2 3; do {traced} ./static_vdso >&2; done"
         run = self.start("--lax", "--", "bash", "-c", command)
         self.assertEqual(run.stderr.count(f"'{os.path.realpath(folder)}/./static_vdso'"), 1)
 
@@ -259,36 +262,75 @@ class Uncovered(RunTest):
 
 
 @unittest.skipUnless(CAN_FILTER, "the kernel lets no filter ask tkrun")
+class Untraced(RunTest):
+    """Where no process may be traced, the library has the clocks, and tkrun can't cover others."""
+
+    def untraced(self, *command):
+        return call([program("filtered"), "deny", CALLS["ptrace"], TKRUN, "--quiet", *STILL,
+                     "--start", str(START), "--", *command])
+
+    def test_programs_with_the_library(self):
+        for command, output in [(["date", "+%s"], f"{START}\n"), ([program("vdso")], "")]:
+            run = self.untraced(*command)
+            self.assertEqual((run.returncode, run.stdout, run.stderr), (0, output, ""))
+
+    def test_programs_without_the_library(self):
+        for command in [["env", "-i", "/bin/date"], ["bash", "-c", program("static_vdso")]]:
+            run = self.untraced(*command)
+            self.assertEqual((run.returncode, run.stdout), (4, ""))
+            self.assertRegex(run.stderr, "^tkrun: '.*' .process [0-9]+. reads the host's clocks: it "
+                             "can't be traced when it is executed\n")
+
+
 class Unfiltered(RunTest):
-    """Inside another tkrun no filter can be installed. So programs are looked at."""
+    """Inside another tkrun, and where no process may install a filter, programs are looked at."""
 
     def inside(self, *arguments):
-        """Runs a tkrun inside another one."""
-        return self.start("--quiet", "--lax", "--", TKRUN, *arguments)
+        """Runs a tkrun in both ways, and returns its runs."""
+        run = [TKRUN, *map(str, arguments)]
+        return [call([TKRUN, "--quiet", "--lax", "--", *run])] * CAN_FILTER + [
+            call([program("filtered"), "deny", CALLS["seccomp"], *run])]
 
     def test_the_library_is_found(self):
         # it is looked at several times
-        run = self.inside("--quiet", "--start", START, "--", "bash", "-c", "sleep 1; date +%Y")
-        self.assertEqual((run.returncode, run.stdout, run.stderr), (0, "2001\n", ""))
+        for run in self.inside("--quiet", "--start", START, "--", "bash", "-c",
+                               "sleep 1; date +%Y"):
+            self.assertEqual((run.returncode, run.stdout, run.stderr), (0, "2001\n", ""))
 
     def test_a_program_without_the_library_ends_the_run(self):
-        run = self.inside("--quiet", "--", "env", "-i", "/bin/sleep", "600")
-        self.assertEqual(run.returncode, 4)
-        self.assertRegex(run.stderr, "^tkrun: 'sleep' .process [0-9]+. reads the host's clocks: it "
-                         "hasn't loaded the library\n$")
+        for run in self.inside("--quiet", "--", "env", "-i", "/bin/sleep", "600"):
+            self.assertEqual(run.returncode, 4)
+            self.assertRegex(run.stderr, "^tkrun: 'sleep' .process [0-9]+. reads the host's clocks:"
+                             " it hasn't loaded the library\n$")
+
+    def test_a_library_that_finds_no_clocks(self):
+        for run in self.inside("--quiet", "--", "env", "TKRUN=/nowhere", "sleep", "600")[CAN_FILTER:]:
+            self.assertEqual(run.returncode, 4)
+            self.assertIn("its library finds no clocks", run.stderr)
 
     def test_a_program_without_the_library_is_named(self):
-        run = self.inside("--quiet", "--lax", "--", "env", "-i", "/bin/sleep", "2")
-        self.assertEqual(run.returncode, 0)
-        self.assertRegex(run.stderr, "^tkrun: 'sleep' .process [0-9]+. reads the host's clocks")
+        for run in self.inside("--quiet", "--lax", "--", "env", "-i", "/bin/sleep", "2"):
+            self.assertEqual(run.returncode, 0)
+            self.assertRegex(run.stderr, "^tkrun: 'sleep' .process [0-9]+. reads the host's clocks")
 
     def test_a_static_program_is_not_started(self):
-        run = self.inside("--quiet", "--", program("static_vdso"))
-        self.assertEqual((run.returncode, run.stdout), (4, ""))
-        self.assertRegex(run.stderr, "^tkrun: '.*static_vdso' .process [0-9]+. reads the host's "
-                         "clocks: it is static, and the kernel lets no filter ask tkrun: .*\n$")
+        for run in self.inside("--quiet", "--", program("static_vdso")):
+            self.assertEqual((run.returncode, run.stdout), (4, ""))
+            self.assertRegex(run.stderr, "^tkrun: '.*static_vdso' .process [0-9]+. reads the host's"
+                             " clocks: it is static, and the kernel lets no filter ask tkrun: .*\n$")
 
     def test_the_missing_filter_is_named(self):
-        run = self.inside("--", "true")
-        self.assertEqual(run.returncode, 0)
-        self.assertIn("tkrun: the kernel lets no filter ask tkrun: ", run.stderr)
+        for run in self.inside("--", "true"):
+            self.assertEqual(run.returncode, 0)
+            self.assertIn("tkrun: the kernel lets no filter ask tkrun: ", run.stderr)
+        for run in self.inside("--static", "--", "true"):
+            self.assertEqual((run.returncode, len(run.stderr.splitlines())), (125, 1))
+
+    @needs_root("chooses the numbers of processes")
+    def test_processes_that_have_the_same_number(self):
+        # a look may find one before it has loaded the library
+        last = "/proc/sys/kernel/ns_last_pid"
+        code = (f"last=$(cat {last}); end=$((SECONDS + 3)); while ((SECONDS < end)); do "
+                f"echo $last >{last}; date >/dev/null; done; true")
+        for run in self.inside("--quiet", "--", "bash", "-c", code):
+            self.assertEqual((run.returncode, run.stderr), (0, ""))

@@ -1,15 +1,14 @@
 /* SPDX-License-Identifier: MIT OR Apache-2.0 */
 /*
  * Reads each clock past the library: by the functions of the vDSO, which it finds by
- * AT_SYSINFO_EHDR, and by those of the C library. The clocks have started at 1000000000. Prints
- * what is wrong.
+ * AT_SYSINFO_EHDR, and by the system call. Prints what is wrong.
+ *
+ *     vdso [none]    there is a vDSO, or none
  */
 #define _GNU_SOURCE
-#include "faults.h"
+#include "gettimes.h"
 
-#include <dlfcn.h>
 #include <elf.h>
-#include <stdbool.h>
 #include <stdint.h>
 #include <stdio.h>
 #include <string.h>
@@ -18,10 +17,6 @@
 #include <sys/time.h>
 #include <time.h>
 #include <unistd.h>
-
-static const time_t START = 1000000000;
-
-typedef int gettime(clockid_t, struct timespec *);
 
 static const char *base;
 
@@ -55,29 +50,6 @@ static void *find_function(const char *name)
 	return NULL;
 }
 
-static bool is_after(time_t time, time_t start)
-{
-	return time >= start && time < start + 100;
-}
-
-static void check_clocks(gettime *read)
-{
-	static const clockid_t REAL[] = { CLOCK_REALTIME, CLOCK_REALTIME_COARSE,
-					  CLOCK_TAI, CLOCK_REALTIME_ALARM };
-	static const clockid_t MONOTONIC[] = { CLOCK_MONOTONIC,
-					       CLOCK_MONOTONIC_RAW,
-					       CLOCK_MONOTONIC_COARSE,
-					       CLOCK_BOOTTIME,
-					       CLOCK_BOOTTIME_ALARM };
-	struct timespec now;
-
-	for (size_t i = 0; i < sizeof(REAL) / sizeof(*REAL); i++)
-		CHECK(!read(REAL[i], &now) && is_after(now.tv_sec, START));
-	for (size_t i = 0; i < sizeof(MONOTONIC) / sizeof(*MONOTONIC); i++)
-		CHECK(!read(MONOTONIC[i], &now) && is_after(now.tv_sec, 0));
-	CHECK(!read(CLOCK_PROCESS_CPUTIME_ID, &now) && now.tv_sec < 100);
-}
-
 static void check_vdso(void)
 {
 	gettime *read = (gettime *)find_function("__vdso_clock_gettime");
@@ -104,20 +76,6 @@ static void check_vdso(void)
 	CHECK(!find_processor(&processor, &node, NULL) && processor < 65536);
 }
 
-/* The C library's own function, which a program gets by dlopen and dlsym. */
-static void check_library(void)
-{
-	void *library = dlopen("libc.so.6", RTLD_NOW);
-	gettime *read = library ? (gettime *)dlsym(library, "clock_gettime") : NULL;
-	gettime *hidden = (gettime *)dlsym(RTLD_DEFAULT, "__clock_gettime");
-
-	CHECK(read);
-	if (read)
-		check_clocks(read);
-	if (hidden)
-		check_clocks(hidden);
-}
-
 /* Makes the system call where no library sees it. */
 static int gettime_by_call(clockid_t clock, struct timespec *out)
 {
@@ -139,7 +97,5 @@ int main(int count, char **words)
 		CHECK(count > 1 && !strcmp(words[1], "none"));
 	check_clocks(gettime_by_call);
 	check_clocks(clock_gettime);
-	if (count < 2 || strcmp(words[1], "static"))
-		check_library();
 	return faults > 0;
 }
