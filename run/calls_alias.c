@@ -10,8 +10,8 @@
 #include <stdlib.h>
 #include <sys/select.h>
 
-/* gcc's ASan asks for it, and else ends a program whose first library is another one. Calls that both
- * answer go to this library first, and then to ASan's. */
+/* gcc's ASan asks for it, and otherwise ends a program whose first library is another one. Calls
+ * that both answer go to this library first, and then to ASan's. */
 EXPORT const char *__asan_default_options(void)
 {
 	return "verify_asan_link_order=0";

@@ -1,5 +1,6 @@
 /* SPDX-License-Identifier: MIT OR Apache-2.0 */
-/* Who has the clocks has mapped their page: the library does it, and so does tkrun with its image. */
+/* A process that has the clocks has mapped their page: the library maps it, and so does tkrun with
+ * its image. */
 #define _GNU_SOURCE
 #include "looks.h"
 

@@ -138,6 +138,16 @@ static enum counter_kind parse_counter(const char *text)
 	fail(STATUS_WRONG, "--counter: '%s' isn't raw, tsc or sleeps", text);
 }
 
+static void set_flag(struct options *o, const char *name)
+{
+	o->is_checked |= !strcmp(name, "check");
+	o->denies_set |= !strcmp(name, "deny-set");
+	o->has_stamps |= !strcmp(name, "stamps");
+	o->is_static |= !strcmp(name, "static");
+	o->is_lax |= !strcmp(name, "lax");
+	o->is_quiet |= !strcmp(name, "quiet");
+}
+
 static void parse_option(struct options *o, const char *name)
 {
 	const char *value = optarg;
@@ -166,20 +176,10 @@ static void parse_option(struct options *o, const char *name)
 		o->record = value;
 	else if (!strcmp(name, "every"))
 		o->every = whole(name, value, 1, INT64_MAX);
-	else if (!strcmp(name, "check"))
-		o->is_checked = true;
-	else if (!strcmp(name, "deny-set"))
-		o->denies_set = true;
-	else if (!strcmp(name, "stamps"))
-		o->has_stamps = true;
 	else if (!strcmp(name, "log"))
 		o->log = value;
-	else if (!strcmp(name, "static"))
-		o->is_static = true;
-	else if (!strcmp(name, "lax"))
-		o->is_lax = true;
-	else if (!strcmp(name, "quiet"))
-		o->is_quiet = true;
+	else
+		set_flag(o, name);
 	o->has_ahead |= !strcmp(name, "ahead");
 	o->has_uptime |= !strcmp(name, "uptime");
 	o->describes_counter |= !strcmp(name, "hz") || !strcmp(name, "bits") ||

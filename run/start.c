@@ -189,7 +189,7 @@ static void miss_filter(struct run *run, bool is_static, int error)
 		uncovered_note(*run->options.program, run->child, reason);
 	else if (!run->options.is_quiet)
 		fprintf(stderr,
-			"tkrun: the kernel lets no filter ask tkrun: %s: programs without the library are found only if they run for 0.2 s\n",
+			"tkrun: the kernel lets no filter ask tkrun: %s: a program without the library is found only if it runs for 0.2 s\n",
 			strerror(error));
 	if (!uncovered_is_over())
 		return;

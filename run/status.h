@@ -18,8 +18,8 @@ bool proc_read(const char *path, char *text, size_t size);
  * which the caller frees, or NULL if it is empty or gone, or memory is missing. */
 char *proc_read_list(const char *path);
 
-/* Return whether a file is tkrun, and whether a process runs it: a tkrun inside this one makes clocks
- * on the host's counter. */
+/* Return whether a file is tkrun, and whether a process runs it: a tkrun inside this one makes
+ * clocks on the host's counter. */
 bool is_tkrun_file(const char *path);
 bool proc_is_tkrun(int process);
 

@@ -62,8 +62,8 @@ bool move_counter(struct run *run);
  * clocks. */
 void watch_lock(struct run *run);
 
-/* The first starts a thread that ends all processes when SIGTERM or SIGINT comes: it passes the signal on,
- * and kills them after a second, or when the next one comes. The other ends the thread. */
+/* The first starts a thread that ends all processes when SIGTERM or SIGINT comes: it passes the
+ * signal on, and kills them after a second, or when the next one comes. The other ends it. */
 void ending_watch(void);
 void ending_watch_no_more(void);
 

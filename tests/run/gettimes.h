@@ -1,6 +1,6 @@
 /* SPDX-License-Identifier: MIT OR Apache-2.0 */
-/* gettimes.h - reads each clock by a function that acts as clock_gettime. The clocks have started at
- * 1000000000, less than 100 s ago. */
+/* gettimes.h - reads each clock by a function that acts as clock_gettime. The clocks have started
+ * at 1000000000, less than 100 s ago. */
 #ifndef GETTIMES_H
 #define GETTIMES_H
 

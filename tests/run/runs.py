@@ -54,6 +54,17 @@ class RunTest(unittest.TestCase):
         self.folder.chmod(0o755)
         return shared
 
+    def make_root(self, *programs):
+        """Makes a root with these programs and their libraries, and without tkrun's."""
+        for name in programs:
+            path = pathlib.Path(shutil.which(name))
+            listed = call(["ldd", path]).stdout.split()
+            for file in [str(path)] + [word for word in listed if word.startswith("/")]:
+                copy = self.folder / "root" / file.lstrip("/")
+                copy.parent.mkdir(parents=True, exist_ok=True)
+                shutil.copy(file, copy)
+        return self.folder / "root"
+
     def file(self, name, text):
         path = self.folder / name
         path.write_text(text)
