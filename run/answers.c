@@ -2,6 +2,7 @@
 /* Answers the system calls of programs without the library. */
 #define _GNU_SOURCE
 #include "log.h"
+#include "looks.h"
 #include "memory.h"
 #include "static.h"
 #include "status.h"
@@ -213,6 +214,9 @@ static int make_call(struct machine *m, const struct seccomp_notif *ask,
 		return steer(m, ask, "clock_adjtime", ask->data.args[1], value);
 	case CALL_FILE:
 		return files_give(answered_by, ask, value);
+	case CALL_ATTACHED:
+		looks_remove((pid_t)ask->pid);
+		return 0;
 	default:
 		return CALL_HOST;
 	}

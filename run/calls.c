@@ -37,7 +37,9 @@ static void find_host_clock(uint64_t vdso)
 		host_gettime = image->gettime;
 	if (own.shared->calls_host || !vdso || has_kernels || !host_gettime)
 		host_gettime = host_gettime_by_call;
-	if (has_kernels && !vdso_make_calls(vdso))
+	if (has_kernels)
+		host_call(CALL_ATTACHED, 0, 0, 0, 0, 0, 0);
+	if (has_kernels && !vdso_change(&own, vdso))
 		note_host(&own, HOST_VDSO);
 }
 

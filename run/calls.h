@@ -28,9 +28,9 @@ void *real_call(const char *name);
 /* Returns the clocks of this process, or NULL. */
 struct machine *machine(void);
 
-/* Lets the functions of the kernel's vDSO make system calls, so that tkrun answers them. Returns
- * false if they can't be changed. */
-bool vdso_make_calls(uint64_t vdso);
+/* Lets the functions of the kernel's vDSO read the clocks, too. Returns false if they can't be
+ * changed. */
+bool vdso_change(const struct machine *m, uint64_t vdso);
 
 /* Sets errno and returns -1. */
 int refuse(int error);

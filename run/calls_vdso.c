@@ -1,50 +1,83 @@
 /* SPDX-License-Identifier: MIT OR Apache-2.0 */
-/* Changes the kernel's vDSO in a process whose program tkrun couldn't trace. */
+/*
+ * Changes the kernel's vDSO in a process whose program tkrun couldn't trace: its functions jump to
+ * those of the image, which is mapped next to the clocks' page as tkrun maps it (run/give.c). They
+ * need neither the thread-local variables of this library nor a right of tkrun.
+ */
 #define _GNU_SOURCE
 #include "calls.h"
+#include "image.h"
 #include "symbols.h"
 
-#include <string.h>
 #include <sys/mman.h>
 #include <sys/syscall.h>
 
-/* The functions that read a clock, and the system calls with the same arguments. */
-static const struct {
-	const char *name;
-	uint32_t call;
-} READS[] = {
-	{ "__vdso_clock_gettime", SYS_clock_gettime },
-	{ "__vdso_gettimeofday", SYS_gettimeofday },
-	{ "__vdso_time", SYS_time },
-};
+static const char *const READS[] = { "__vdso_clock_gettime", "__vdso_gettimeofday", "__vdso_time",
+				     "__vdso_clock_getres" };
 
-static bool protect(const struct segment *segment, int rights)
+static bool protect(const void *memory, size_t size, int rights)
 {
-	return !host_call(SYS_mprotect, (long)segment->base, (long)segment->size, rights, 0, 0, 0);
+	return !host_call(SYS_mprotect, (long)memory, (long)size, rights, 0, 0, 0);
 }
 
-/* Makes of a function: mov $call, %eax; syscall; ret. */
-static void make_call(char *function, uint32_t call)
+/* Maps the page at an address. */
+static bool map_page(char *at)
 {
-	static const char ENTRY[] = { (char)0xb8 }, REST[] = { 0x0f, 0x05, (char)0xc3 };
+	long file = host_call(CALL_FILE, FILE_PAGE, 0, 0, 0, 0, 0);
+	long result;
 
-	memcpy(function, ENTRY, sizeof(ENTRY));
-	memcpy(function + sizeof(ENTRY), &call, sizeof(call));
-	memcpy(function + sizeof(ENTRY) + sizeof(call), REST, sizeof(REST));
+	if (file < 0)
+		return false;
+	result = host_call(SYS_mmap, (long)at, SHARED_BYTES, PROT_READ, MAP_SHARED | MAP_FIXED,
+			   file, 0);
+	host_call(SYS_close, file, 0, 0, 0, 0, 0);
+	return result == (long)at;
 }
 
-/* The pages become this process's own. */
-bool vdso_make_calls(uint64_t vdso)
+/* Maps the page, the head and the image. The head has no function of the kernel's, which are
+ * changed. Returns the image's address, or NULL. */
+static char *map_image(const struct machine *m)
 {
-	struct segment segment = segment_at(vdso);
-	uint64_t place;
+	size_t size = (size_t)(image_end - image_start), code = HEAD_BYTES + size;
+	long at = host_call(SYS_mmap, 0, SHARED_BYTES + (long)code, PROT_READ | PROT_WRITE,
+			    MAP_PRIVATE | MAP_ANONYMOUS, -1, 0);
+	char *start = (char *)at + SHARED_BYTES;
+	union image_head *head = (union image_head *)start;
 
-	if (!protect(&segment, PROT_READ | PROT_WRITE))
+	if (at < 0)
+		return NULL;
+	head->makes_calls = m->control && m->control->rows.every;
+	memcpy(start + HEAD_BYTES, image_start, size);
+	if (map_page((char *)at) && protect(start, code, PROT_READ | PROT_EXEC))
+		return start + HEAD_BYTES;
+	host_call(SYS_munmap, at, SHARED_BYTES + (long)code, 0, 0, 0, 0);
+	return NULL;
+}
+
+/* Makes of a function: movabs $target, %rax; jmp *%rax. */
+static void make_jump(char *function, uint64_t target)
+{
+	static const char LOAD[] = { 0x48, (char)0xb8 }, JUMP[] = { (char)0xff, (char)0xe0 };
+
+	memcpy(function, LOAD, sizeof(LOAD));
+	memcpy(function + sizeof(LOAD), &target, sizeof(target));
+	memcpy(function + sizeof(LOAD) + sizeof(target), JUMP, sizeof(JUMP));
+}
+
+/* The pages of the vDSO become this process's own. */
+bool vdso_change(const struct machine *m, uint64_t vdso)
+{
+	char *mapped = map_image(m);
+	struct segment kernel = segment_at(vdso), image = segment_at((uint64_t)mapped);
+
+	if (!mapped || !protect(kernel.base, kernel.size, PROT_READ | PROT_WRITE))
 		return false;
 	for (size_t i = 0; i < sizeof(READS) / sizeof(*READS); i++) {
-		place = segment_function(&segment, READS[i].name);
-		if (place)
-			make_call((char *)vdso + place, READS[i].call);
+		uint64_t from = segment_function(&kernel, READS[i]);
+		uint64_t to = segment_function(&image, READS[i]);
+
+		if (from && to)
+			make_jump((char *)vdso + from, (uint64_t)mapped + to);
 	}
-	return protect(&segment, PROT_READ | PROT_EXEC);
+	return protect(kernel.base, kernel.size, PROT_READ | PROT_EXEC);
 }

@@ -98,8 +98,8 @@ static void join_path(const struct executed *file, const char *folder,
 		 *folder && *file->name ? "/" : "", file->name);
 }
 
-/* Returns whether a call executes a program that can't load the library. If the
- * call's memory can't be read, it counts as one. */
+/* Returns whether a call executes a program that can't load the library. If tkrun may not read the
+ * call's memory, it isn't known. */
 static bool lacks_library(const struct seccomp_notif *ask,
 			  const struct executed *program)
 {
@@ -107,6 +107,10 @@ static bool lacks_library(const struct seccomp_notif *ask,
 		ask->data.args[ask->data.nr == SYS_execveat ? 3 : 2];
 	char path[2 * TEXT_MOST];
 
+	errno = 0;
+	stack_peek((pid_t)ask->pid, environment);
+	if (errno == EPERM)
+		return false;
 	join_path(program, program->folder, path, sizeof(path));
 	if (*path && (access(path, X_OK) || is_tkrun_file(path)))
 		return false; /* the call will fail, or a tkrun makes its own clocks */

@@ -33,7 +33,7 @@ static const int ASKED[] = { SYS_gettimeofday,	SYS_time,
 			     SYS_clock_settime, SYS_settimeofday,
 			     SYS_adjtimex,	SYS_clock_adjtime,
 			     SYS_execve,	SYS_execveat,
-			     CALL_FILE };
+			     CALL_FILE,		CALL_ATTACHED };
 static const int SLEEPS[] = { SYS_nanosleep, SYS_clock_nanosleep,
 			      SYS_restart_syscall };
 

@@ -23,14 +23,6 @@
 #include <sys/user.h>
 #include <sys/wait.h>
 
-/* The file of the image, by tools/build_run. */
-__asm__(".section .rodata\n"
-	".globl image_start, image_end\n"
-	"image_start: .incbin \"" IMAGE "\"\n"
-	"image_end:\n"
-	".previous");
-extern const char image_start[], image_end[];
-
 enum { CALL_STOP = SIGTRAP | 0x80 }; /* by PTRACE_O_TRACESYSGOOD */
 
 /* Places in the kernel's vDSO, which is the same in each program: of an

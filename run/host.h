@@ -56,13 +56,14 @@ uint64_t host_nanos(clockid_t clock);
 #define HOST_CALL 0x746b7275
 
 /*
- * A system call that no kernel has: the filter of a run sends it to tkrun, which answers with a
- * file of the clocks. So a process gets the clocks also if it has another root, another /dev/shm,
- * or no environment.
+ * System calls that no kernel has: the filter of a run sends them to tkrun. It answers the first
+ * with a file of the clocks. So a process gets the clocks also if it has another root, another
+ * /dev/shm, or no environment. By the second, the library says that it has the clocks, if tkrun
+ * can't know it because the program wasn't traced.
  */
-enum { CALL_FILE = 0x746b72 };
+enum { CALL_FILE = 0x746b72, CALL_ATTACHED };
 
-/* Its argument. A process of another user doesn't get the two in the middle. */
+/* The argument of CALL_FILE. A process of another user doesn't get the two in the middle. */
 enum clock_file {
 	FILE_PAGE,
 	FILE_PAGE_WRITABLE,

@@ -42,6 +42,10 @@ static inline const union image_head *image_head_of(uint64_t vdso)
 	return (const union image_head *)(vdso - HEAD_BYTES);
 }
 
+/* The bytes of the image. */
+extern const char image_start[] __attribute__((visibility("hidden")));
+extern const char image_end[] __attribute__((visibility("hidden")));
+
 /* Lets programs have the image. */
 void image_offer(const struct machine *machine);
 

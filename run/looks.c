@@ -24,7 +24,7 @@ enum {
 
 static char page[NAME_MAX]; /* how the name of the page ends, wherever its folder is mounted */
 
-static pid_t added[ADDED_MOST];
+static _Atomic pid_t added[ADDED_MOST];
 static size_t added_count;
 
 void looks_start(const char *folder)
@@ -37,9 +37,18 @@ void looks_add(pid_t process)
 	added[added_count++ % ADDED_MOST] = process;
 }
 
+void looks_remove(pid_t process)
+{
+	for (size_t i = 0; i < ADDED_MOST; i++) {
+		pid_t same = process;
+
+		atomic_compare_exchange_strong(&added[i], &same, 0);
+	}
+}
+
 static bool is_added(pid_t process)
 {
-	for (size_t i = 0; i < added_count && i < ADDED_MOST; i++) {
+	for (size_t i = 0; i < ADDED_MOST; i++) {
 		if (added[i] == process)
 			return true;
 	}

@@ -9,8 +9,9 @@
 /* Sets the folder of the clocks. */
 void looks_start(const char *folder);
 
-/* Looks at a process, too. */
+/* Looks at a process, too, unless it says that it has the clocks. */
 void looks_add(pid_t process);
+void looks_remove(pid_t process);
 
 /* Looks at these processes, or at all of the tree. A process is looked at twice, since a new one
  * loads its libraries first. Names those that have no clocks. */

@@ -29,6 +29,17 @@ def program(name):
     return f"{PROGRAMS}/{name}"
 
 
+# prints the second of REALTIME by three functions of the C library, in Python
+LIBRARY = """import ctypes
+library = ctypes.CDLL("libc.so.6")
+pair = (ctypes.c_long * 2)()
+library.clock_gettime(0, pair)
+second = pair[0]
+library.gettimeofday(pair, None)
+print(second, pair[0], library.time(None))
+"""
+
+
 class RunTest(unittest.TestCase):
     def setUp(self):
         self.folder = pathlib.Path(tempfile.mkdtemp(prefix="tkrun-test."))

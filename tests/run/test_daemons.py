@@ -46,8 +46,9 @@ class Rights(RunTest):
 
     def starts(self, *command):
         """A daemon goes on until it is ended."""
-        run = subprocess.Popen([TKRUN, "--quiet", "--start", "2030-01-01T00:00:00Z", "--", *command],
-                               stdout=subprocess.PIPE, stderr=subprocess.STDOUT, text=True)
+        run = subprocess.Popen([TKRUN, "--quiet", "--start", "2030-01-01T00:00:00Z", "--",
+                                *command], stdout=subprocess.PIPE, stderr=subprocess.STDOUT,
+                               text=True)
         self.addCleanup(run.stdout.close)
         time.sleep(2)
         is_running = run.poll() is None

@@ -6,7 +6,7 @@ import shutil
 import subprocess
 import unittest
 
-from runs import (CAN_FILTER, CAN_TRACE, OTHER, STILL, TKRUN, RunTest, call, needs,
+from runs import (CAN_FILTER, CAN_TRACE, LIBRARY, OTHER, STILL, TKRUN, RunTest, call, needs,
                   needs_mounts, needs_root, program)
 
 START = 1000000000
@@ -23,14 +23,6 @@ func main() {
 \tuser.Current()
 \tfmt.Println(time.Now().Unix())
 }
-"""
-LIBRARY = """import ctypes
-library = ctypes.CDLL("libc.so.6")
-pair = (ctypes.c_long * 2)()
-library.clock_gettime(0, pair)
-second = pair[0]
-library.gettimeofday(pair, None)
-print(second, pair[0], library.time(None))
 """
 
 

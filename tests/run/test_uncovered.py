@@ -4,7 +4,8 @@ import shutil
 import subprocess
 import unittest
 
-from runs import CALLS, CAN_FILTER, CAN_TRACE, STILL, TKRUN, RunTest, call, needs_root, program
+from runs import (CALLS, CAN_FILTER, CAN_TRACE, LIBRARY, OTHER, STILL, TKRUN, RunTest, call, needs,
+                  needs_root, program)
 
 START = 1000000000
 
@@ -91,8 +92,38 @@ class Untraced(RunTest):
         for command in [["env", "-i", "/bin/date"], ["bash", "-c", program("static_vdso")]]:
             run = self.untraced(*command)
             self.assertEqual((run.returncode, run.stdout), (4, ""))
-            self.assertRegex(run.stderr, "^tkrun: '.*' .process [0-9]+. reads the host's clocks: it "
-                             "can't be traced when it is executed\n")
+            self.assertRegex(run.stderr, "^tkrun: '.*' .process [0-9]+. reads the host's clocks:"
+                             " it can't be traced when it is executed\n")
+
+
+@unittest.skipUnless(CAN_FILTER, "the kernel lets no filter ask tkrun")
+@needs_root("becomes another user")
+class Unseen(RunTest):
+    """Without CAP_SYS_PTRACE, as in some containers, tkrun can't look at other users' processes."""
+
+    def unseen(self, *command, options=()):
+        return call(["setpriv", "--bounding-set", "-sys_ptrace", self.share() / "bin/tkrun",
+                     "--quiet", *options, "--start", str(START), "--", *OTHER, *command])
+
+    def test_programs_with_the_library(self):
+        run = self.unseen("bash", "-c", "date +%Y; sleep 2; date +%Y")
+        self.assertEqual((run.returncode, run.stdout, run.stderr), (0, "2001\n2001\n", ""))
+
+    @needs("/usr/bin/python3")
+    def test_functions_of_the_c_library(self):
+        for counter in ["raw", "tsc", "sleeps"]:
+            run = self.unseen("/usr/bin/python3", "-c", LIBRARY, options=["--counter", counter])
+            self.assertEqual((run.returncode, run.stderr), (0, ""))
+            for second in run.stdout.split():
+                self.assertIn(int(second), range(START, START + 100))
+            shutil.rmtree(self.folder / "dist")
+
+    def test_programs_without_the_library(self):
+        run = self.unseen("env", "-i", "/bin/sh", "-c", "while :; do :; done")
+        self.assertEqual((run.returncode, run.stdout), (4, ""))
+        # some kernels let CAP_PERFMON look at it
+        self.assertRegex(run.stderr, "^tkrun: '.*' .process [0-9]+. reads the host's clocks: it "
+                         "(may not be looked at, and may be setuid|hasn't loaded the library)\n$")
 
 
 class Unfiltered(RunTest):
@@ -117,7 +148,8 @@ class Unfiltered(RunTest):
                              " it hasn't loaded the library\n$")
 
     def test_a_library_that_finds_no_clocks(self):
-        for run in self.inside("--quiet", "--", "env", "TKRUN=/nowhere", "sleep", "600")[CAN_FILTER:]:
+        runs = self.inside("--quiet", "--", "env", "TKRUN=/nowhere", "sleep", "600")
+        for run in runs[CAN_FILTER:]:
             self.assertEqual(run.returncode, 4)
             self.assertIn("its library finds no clocks", run.stderr)
 
@@ -130,7 +162,12 @@ class Unfiltered(RunTest):
         for run in self.inside("--quiet", "--", program("static_vdso")):
             self.assertEqual((run.returncode, run.stdout), (4, ""))
             self.assertRegex(run.stderr, "^tkrun: '.*static_vdso' .process [0-9]+. reads the host's"
-                             " clocks: it is static, and the kernel lets no filter ask tkrun: .*\n$")
+                             " clocks: it is static, and the kernel lets no filter ask tkrun: ")
+
+    def test_a_static_program_is_named(self):
+        for run in self.inside("--quiet", "--lax", "--", program("static_vdso"))[CAN_FILTER:]:
+            self.assertEqual(run.returncode, 1)  # it finds wrong times
+            self.assertRegex(run.stderr, "^tkrun: '.*static_vdso' .* reads the host's clocks: it ")
 
     def test_the_missing_filter_is_named(self):
         for run in self.inside("--", "true"):
