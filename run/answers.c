@@ -2,20 +2,18 @@
 /* Answers the system calls of programs without the library. */
 #define _GNU_SOURCE
 #include "log.h"
+#include "looks.h"
 #include "memory.h"
 #include "static.h"
 #include "status.h"
 
 #include <errno.h>
-#include <fcntl.h>
-#include <signal.h>
 #include <sys/ioctl.h>
 #include <sys/syscall.h>
 #include <sys/time.h>
-#include <unistd.h>
 
 static struct machine *answered;
-static int answered_by, execs[2];
+static int answered_by;
 
 int answer_put(const struct seccomp_notif *ask, uint64_t address,
 	       const void *value, size_t size)
@@ -187,9 +185,18 @@ static int steer_clock(struct machine *m, const struct seccomp_notif *ask,
 		     : steer(m, ask, "clock_adjtime", ask->data.args[1], value);
 }
 
+/* Returns whether a call sets or steers the clocks. */
+static bool is_command(long call)
+{
+	return call == SYS_clock_settime || call == SYS_settimeofday ||
+	       call == SYS_adjtimex || call == SYS_clock_adjtime;
+}
+
 static int make_call(struct machine *m, const struct seccomp_notif *ask,
 		     int64_t *value)
 {
+	if (is_command(ask->data.nr) && !files_may_command((int)ask->pid))
+		return EPERM;
 	switch (ask->data.nr) {
 	case SYS_clock_gettime:
 		return read_clock(m, ask);
@@ -212,6 +219,11 @@ static int make_call(struct machine *m, const struct seccomp_notif *ask,
 		return steer(m, ask, "adjtimex", ask->data.args[0], value);
 	case SYS_clock_adjtime:
 		return steer_clock(m, ask, value);
+	case CALL_FILE:
+		return files_give(answered_by, ask, value);
+	case CALL_ATTACHED:
+		looks_remove((pid_t)ask->pid);
+		return 0;
 	default:
 		return CALL_HOST;
 	}
@@ -235,36 +247,24 @@ void answer(struct machine *machine, int listener,
 	ioctl(listener, SECCOMP_IOCTL_NOTIF_SEND, &reply);
 }
 
-/* Only the thread that waits for a program's stop may follow it. If it is late, this one
- * waits for room in the pipe. */
-static void pass_on(const struct seccomp_notif *ask)
-{
-	if (write(execs[1], ask, sizeof(*ask)) != sizeof(*ask))
-		filter_continue(answered_by, ask->id);
-	kill(getpid(), SIGCHLD);
-}
-
 static void *answer_all(void *unused)
 {
 	struct seccomp_notif ask;
 
 	while (filter_next(answered_by, &ask) || !filter_is_over(answered_by)) {
 		if (is_exec(&ask))
-			pass_on(&ask);
+			execs_add(answered_by, &ask);
 		else if (ask.id)
 			answer(answered, answered_by, &ask);
 	}
 	return unused;
 }
 
-int answers_start(struct machine *machine, int listener)
+bool answers_start(struct machine *machine, int listener)
 {
 	pthread_t thread;
 
 	answered = machine;
 	answered_by = listener;
-	if (pipe2(execs, O_CLOEXEC) || fcntl(execs[0], F_SETFL, O_NONBLOCK) ||
-	    pthread_create(&thread, NULL, answer_all, NULL))
-		return -1;
-	return execs[0];
+	return !pthread_create(&thread, NULL, answer_all, NULL);
 }

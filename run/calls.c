@@ -1,5 +1,6 @@
 /* SPDX-License-Identifier: MIT OR Apache-2.0 */
 #define _GNU_SOURCE
+#include "image.h"
 #include "timers.h"
 
 #include <dlfcn.h>
@@ -19,24 +20,63 @@ void *real_call(const char *name)
 	return found;
 }
 
-/* Not inlined, so that `machine` is small. */
-__attribute__((noinline, cold)) static void find_machine(void)
+/* Finds out how the host's clocks are read. In a program whose vDSO tkrun has replaced, the C
+ * library's function reads the clocks of tkrun. If a debugger traces the program, tkrun couldn't
+ * replace it. */
+static void find_host_clock(uint64_t vdso)
+{
+	const union image_head *image = image_head_of(vdso);
+	bool has_kernels = own.shared->has_filter && vdso && !image;
+
+	if (image)
+		host_gettime = image->gettime;
+	if (own.shared->calls_host || !vdso || has_kernels || !host_gettime)
+		host_gettime = host_gettime_by_call;
+	if (has_kernels)
+		host_call(CALL_ATTACHED, 0, 0, 0, 0, 0, 0);
+	if (has_kernels && !vdso_change(&own, vdso))
+		note_host(&own, HOST_VDSO);
+}
+
+/* Counts the program, unless tkrun has done it. */
+static void count_program(uint64_t vdso)
+{
+	bool is_counted = own.shared->has_filter &&
+			  (!vdso || image_head_of(vdso));
+
+	if (own.control && !is_counted)
+		atomic_fetch_add(&own.control->attached, 1);
+}
+
+/* Only glibc has it. Another C library has other locks and structs, so its programs have the clocks
+ * as those without the library do. */
+extern const char *gnu_get_libc_version(void) __attribute__((weak));
+
+static bool attach(void)
 {
 	const char *folder = getenv("TKRUN");
+
+	return gnu_get_libc_version &&
+	       ((folder && machine_attach(&own, folder)) ||
+		machine_attach(&own, NULL));
+}
+
+/* Finds the clocks by the environment, or by asking tkrun. Not inlined, so that `machine` is
+ * small. */
+__attribute__((noinline, cold)) static void find_machine(void)
+{
+	uint64_t vdso = getauxval(AT_SYSINFO_EHDR);
 	int error = errno; /* main begins with 0 */
-	bool is_attached;
+	bool is_attached = attach();
 
 	host_gettime = real_call("clock_gettime");
-	is_attached = folder && machine_attach(&own, folder);
 	errno = error;
 	if (!is_attached) {
 		atomic_store(&state, 1);
 		return;
 	}
-	if (own.shared->calls_host || !getauxval(AT_SYSINFO_EHDR))
-		host_gettime = host_gettime_by_call;
-	if (own.control)
-		atomic_fetch_add(&own.control->attached, 1);
+	find_host_clock(vdso);
+	count_program(vdso);
 	waiters_forget(&own, getpid()); /* the thread that has just begun */
 	timers_hook_forks();
 	atomic_store(&state, 2);

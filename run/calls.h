@@ -28,6 +28,10 @@ void *real_call(const char *name);
 /* Returns the clocks of this process, or NULL. */
 struct machine *machine(void);
 
+/* Lets the functions of the kernel's vDSO read the clocks, too. Returns false if they can't be
+ * changed. */
+bool vdso_change(const struct machine *m, uint64_t vdso);
+
 /* Sets errno and returns -1. */
 int refuse(int error);
 

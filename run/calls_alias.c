@@ -7,9 +7,30 @@
 #include "calls.h"
 
 #include <poll.h>
+#include <stdlib.h>
 #include <sys/select.h>
 
-extern void __chk_fail(void) __attribute__((noreturn));
+/* gcc's ASan asks for it, and otherwise ends a program whose first library is another one. Calls
+ * that both answer go to this library first, and then to ASan's. */
+EXPORT const char *__asan_default_options(void)
+{
+	return "verify_asan_link_order=0";
+}
+
+/* A C library other than glibc may lack it. */
+extern void __chk_fail(void) __attribute__((weak));
+
+static void end_at_overflow(void)
+{
+	if (__chk_fail)
+		__chk_fail();
+	abort();
+}
+
+EXPORT int __clock_gettime(clockid_t clock, struct timespec *out)
+{
+	return clock_gettime(clock, out);
+}
 
 EXPORT int __gettimeofday(struct timeval *restrict out, void *restrict zone)
 {
@@ -36,7 +57,7 @@ EXPORT int __poll_chk(struct pollfd *files, nfds_t count, int millis,
 		      size_t bytes)
 {
 	if (bytes / sizeof(*files) < count)
-		__chk_fail();
+		end_at_overflow();
 	return poll(files, count, millis);
 }
 
@@ -45,6 +66,6 @@ EXPORT int __ppoll_chk(struct pollfd *files, nfds_t count,
 		       size_t bytes)
 {
 	if (bytes / sizeof(*files) < count)
-		__chk_fail();
+		end_at_overflow();
 	return ppoll(files, count, span, mask);
 }

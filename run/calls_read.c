@@ -2,6 +2,7 @@
 /* The calls that read a clock. */
 #define _GNU_SOURCE
 #include "calls.h"
+#include "counter.h"
 
 #include <stddef.h>
 #include <sys/time.h>
@@ -14,7 +15,8 @@ EXPORT int clock_gettime(clockid_t clock, struct timespec *out)
 	struct tkc_time now;
 
 	if (number < 0)
-		return host_gettime(clock, out);
+		return m ? host_gettime_by_call(clock, out)
+			 : REAL(clock_gettime)(clock, out);
 	if (machine_read(m, (uint32_t)number, &now))
 		return refuse(EOVERFLOW);
 	*out = (struct timespec){ now.sec, now.nsec };
@@ -24,15 +26,11 @@ EXPORT int clock_gettime(clockid_t clock, struct timespec *out)
 EXPORT int clock_getres(clockid_t clock, struct timespec *out)
 {
 	struct machine *m = machine();
-	bool is_coarse = clock == CLOCK_REALTIME_COARSE ||
-			 clock == CLOCK_MONOTONIC_COARSE;
 
 	if (!m || machine_clock(clock) < 0)
 		return REAL(clock_getres)(clock, out);
 	if (out)
-		*out = (struct timespec){
-			0, is_coarse ? (long)m->shared->update_nanos : 1
-		};
+		*out = machine_resolution(m->shared, clock);
 	return 0;
 }
 

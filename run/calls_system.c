@@ -166,6 +166,7 @@ EXPORT long syscall(long number, ...)
 	     make_file_wait(m, number, a, &result) ||
 	     make_message_wait(number, a, &result) ||
 	     make_futex(m, number, a, &result) ||
+	     make_rights(number, a, &result) ||
 	     make_packet(m, number, a, &result) ||
 	     make_timer(number, a, &result) ||
 	     make_posix_timer(number, a, &result)))

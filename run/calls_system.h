@@ -15,6 +15,7 @@ bool make_sleep(long number, const long *a, long *result);
 bool make_file_wait(struct machine *m, long number, const long *a,
 		    long *result);
 bool make_message_wait(long number, const long *a, long *result);
+bool make_rights(long number, const long *a, long *result);
 bool make_futex(struct machine *m, long number, const long *a, long *result);
 
 #endif

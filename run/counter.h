@@ -1,5 +1,5 @@
 /* SPDX-License-Identifier: MIT OR Apache-2.0 */
-/* counter.h - the counter of the clocks, by the host's. */
+/* counter.h - the counter of the clocks, by the host's, and the clocks' resolution. */
 #ifndef COUNTER_H
 #define COUNTER_H
 
@@ -42,6 +42,14 @@ static inline uint64_t early_reading(const struct shared_page *shared,
 	if (shared->scale != 1)
 		moved = moved * shared->scale >> shared->scale_shift;
 	return (shared->first + (uint64_t)moved) & shared->mask;
+}
+
+/* Returns the resolution of a clock that the machine answers for. */
+static inline struct timespec machine_resolution(const struct shared_page *shared, clockid_t clock)
+{
+	bool is_coarse = clock == CLOCK_REALTIME_COARSE || clock == CLOCK_MONOTONIC_COARSE;
+
+	return (struct timespec){ 0, is_coarse ? (long)shared->update_nanos : 1 };
 }
 
 #endif

@@ -10,10 +10,12 @@
 #include <linux/filter.h>
 #include <poll.h>
 #include <stddef.h>
+#include <stdio.h>
 #include <string.h>
 #include <sys/ioctl.h>
 #include <sys/prctl.h>
 #include <sys/syscall.h>
+#include <sys/utsname.h>
 #include <unistd.h>
 
 #ifndef SECCOMP_IOCTL_NOTIF_SET_FLAGS /* since Linux 6.6 */
@@ -30,7 +32,8 @@ enum { CODE_MOST = 64, HEADERS_MOST = 64 };
 static const int ASKED[] = { SYS_gettimeofday,	SYS_time,
 			     SYS_clock_settime, SYS_settimeofday,
 			     SYS_adjtimex,	SYS_clock_adjtime,
-			     SYS_execve,	SYS_execveat };
+			     SYS_execve,	SYS_execveat,
+			     CALL_FILE,		CALL_ATTACHED };
 static const int SLEEPS[] = { SYS_nanosleep, SYS_clock_nanosleep,
 			      SYS_restart_syscall };
 
@@ -109,14 +112,26 @@ static size_t put_all(struct sock_filter *code)
 static long install(const struct sock_fprog *program)
 {
 	unsigned long flags = SECCOMP_FILTER_FLAG_NEW_LISTENER |
-			      SECCOMP_FILTER_FLAG_WAIT_KILLABLE_RECV;
-	long file = syscall(SYS_seccomp, SECCOMP_SET_MODE_FILTER, flags,
+			      SECCOMP_FILTER_FLAG_SPEC_ALLOW;
+	long file = syscall(SYS_seccomp, SECCOMP_SET_MODE_FILTER,
+			    flags | SECCOMP_FILTER_FLAG_WAIT_KILLABLE_RECV,
 			    program);
 
 	if (file < 0 && errno == EINVAL)
-		file = syscall(SYS_seccomp, SECCOMP_SET_MODE_FILTER,
-			       SECCOMP_FILTER_FLAG_NEW_LISTENER, program);
+		file = syscall(SYS_seccomp, SECCOMP_SET_MODE_FILTER, flags,
+			       program);
 	return file;
+}
+
+/* Before Linux 5.5, tkrun can't let the kernel make a call. */
+static bool has_continue(void)
+{
+	struct utsname system;
+	int major = 0, minor = 0;
+
+	uname(&system);
+	sscanf(system.release, "%d.%d", &major, &minor);
+	return major > 5 || (major == 5 && minor >= 5);
 }
 
 /* Only who has CAP_SYS_ADMIN may install a filter and start programs that get
@@ -125,8 +140,11 @@ int filter_install(void)
 {
 	struct sock_filter code[CODE_MOST];
 	struct sock_fprog program = { (unsigned short)put_all(code), code };
-	long file = install(&program);
+	long file;
 
+	if (!has_continue())
+		return -ENOSYS;
+	file = install(&program);
 	if (file < 0 && errno == EACCES) {
 		prctl(PR_SET_NO_NEW_PRIVS, 1, 0, 0, 0);
 		file = install(&program);
@@ -164,6 +182,13 @@ void filter_continue(int listener, uint64_t id)
 	struct seccomp_notif_resp reply = {
 		.id = id, .flags = SECCOMP_USER_NOTIF_FLAG_CONTINUE
 	};
+
+	ioctl(listener, SECCOMP_IOCTL_NOTIF_SEND, &reply);
+}
+
+void filter_refuse(int listener, uint64_t id, int error)
+{
+	struct seccomp_notif_resp reply = { .id = id, .error = -error };
 
 	ioctl(listener, SECCOMP_IOCTL_NOTIF_SEND, &reply);
 }

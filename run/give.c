@@ -7,6 +7,7 @@
 #define _GNU_SOURCE
 #include "image.h"
 #include "status.h"
+#include "symbols.h"
 
 #include <elf.h>
 #include <errno.h>
@@ -22,81 +23,17 @@
 #include <sys/user.h>
 #include <sys/wait.h>
 
-/* The file of the image, by tools/build_run. */
-__asm__(".section .rodata\n"
-	".globl image_start, image_end\n"
-	"image_start: .incbin \"" IMAGE "\"\n"
-	"image_end:\n"
-	".previous");
-extern const char image_start[], image_end[];
-
-enum {
-	CODE_64 = 0x33,		  /* cs of 64-bit programs */
-	CALL_STOP = SIGTRAP | 0x80, /* by PTRACE_O_TRACESYSGOOD */
-};
+enum { CALL_STOP = SIGTRAP | 0x80 }; /* by PTRACE_O_TRACESYSGOOD */
 
 /* Places in the kernel's vDSO, which is the same in each program: of an
- * instruction `syscall`, and of clock_gettime. 0 means that there is none. */
+ * instruction `syscall`, and of functions. 0 means that there is none. */
 static struct {
-	uint64_t call, gettime;
+	uint64_t call, gettime, getcpu, getrandom, sgx_enter_enclave;
 } vdso;
 
 static union image_head head;
 static bool is_offered;
 static uint64_t filters; /* of a program that has added none */
-
-/* The vDSO of tkrun itself: its segment's size, and its dynamic section. */
-struct segment {
-	const char *base;
-	size_t size;
-	const Elf64_Dyn *dynamic;
-};
-
-static struct segment find_segment(void)
-{
-	struct segment found = { (const char *)getauxval(AT_SYSINFO_EHDR), 0,
-				 NULL };
-	const Elf64_Ehdr *start = (const Elf64_Ehdr *)found.base;
-
-	for (int i = 0; start && i < start->e_phnum; i++) {
-		const Elf64_Phdr *part =
-			(const Elf64_Phdr *)(found.base + start->e_phoff) + i;
-
-		if (part->p_type == PT_LOAD)
-			found.size = part->p_memsz;
-		if (part->p_type == PT_DYNAMIC)
-			found.dynamic = (const Elf64_Dyn *)(found.base +
-							    part->p_offset);
-	}
-	return found;
-}
-
-static uint64_t find_dynamic(const struct segment *segment, int64_t tag)
-{
-	for (const Elf64_Dyn *entry = segment->dynamic;
-	     entry && entry->d_tag != DT_NULL; entry++) {
-		if (entry->d_tag == tag)
-			return entry->d_un.d_ptr;
-	}
-	return 0;
-}
-
-/* Returns the place of a function, or 0. The names follow the symbols. */
-static uint64_t find_function(const struct segment *segment, const char *name)
-{
-	uint64_t names = find_dynamic(segment, DT_STRTAB);
-	uint64_t at = find_dynamic(segment, DT_SYMTAB);
-
-	for (; at && at + sizeof(Elf64_Sym) <= names; at += sizeof(Elf64_Sym)) {
-		const Elf64_Sym *symbol =
-			(const Elf64_Sym *)(segment->base + at);
-
-		if (symbol->st_shndx != SHN_UNDEF &&
-		    !strcmp(segment->base + names + symbol->st_name, name))
-			return symbol->st_value;
-	}
-	return 0;
-}
 
 static uint64_t filter_count(int process)
 {
@@ -107,29 +44,40 @@ static uint64_t filter_count(int process)
 	return status_number(status, "Seccomp_filters", 10);
 }
 
-/* A record needs each read, so it needs each system call. */
-void image_offer(const struct machine *machine, const char *folder)
+/* The vDSO is that of tkrun itself. */
+static void find_functions(const struct segment *segment)
 {
-	struct segment segment = find_segment();
+	vdso.gettime = segment_function(segment, "__vdso_clock_gettime");
+	vdso.getcpu = segment_function(segment, "__vdso_getcpu");
+	vdso.getrandom = segment_function(segment, "__vdso_getrandom");
+	vdso.sgx_enter_enclave =
+		segment_function(segment, "__vdso_sgx_enter_enclave");
+}
+
+void image_offer(const struct machine *machine)
+{
+	bool calls_host = machine->shared->calls_host;
+	struct segment segment =
+		segment_at(getauxval(AT_SYSINFO_EHDR));
 	const char *call = segment.size ? memmem(segment.base, segment.size,
 						 "\x0f\x05", 2)
 					: NULL;
 
 	vdso.call = call ? (uint64_t)(call - segment.base) : 0;
-	if (!machine->shared->calls_host)
-		vdso.gettime = find_function(&segment, "__vdso_clock_gettime");
+	find_functions(&segment);
+	if (calls_host)
+		vdso.gettime = 0;
 	filters = filter_count((int)getpid()) + 1;
-	is_offered = !machine->control->rows.every && vdso.call &&
-		     (vdso.gettime || machine->shared->calls_host ||
-		      machine->shared->kind != COUNTER_RAW) &&
-		     snprintf(head.path, sizeof(head.path), "%s/page",
-			      folder) < (int)sizeof(head.path);
+	head.makes_calls = machine->control->rows.every > 0;
+	is_offered = vdso.call && (vdso.gettime || calls_host ||
+				   machine->shared->kind != COUNTER_RAW);
 }
 
 /* A thread that has executed a program, with its registers then. */
 struct target {
 	pid_t thread;
-	uint64_t call; /* the address of an instruction `syscall` */
+	uint64_t vdso; /* the address of the kernel's own */
+	uint64_t call; /* that of an instruction `syscall` */
 	struct user_regs_struct start;
 };
 
@@ -172,11 +120,11 @@ static long make_call(const struct target *target, long number, uint64_t a,
 	return (long)registers.rax;
 }
 
-/* Maps the file of the clocks at an address. */
-static bool map_page(const struct target *target, uint64_t at, uint64_t path)
+/* Maps the file of the clocks at an address. A thread of tkrun answers the first
+ * call meanwhile. */
+static bool map_page(const struct target *target, uint64_t at)
 {
-	long file = make_call(target, SYS_openat, (uint64_t)AT_FDCWD, path,
-			      O_RDONLY | O_CLOEXEC, 0, 0);
+	long file = make_call(target, CALL_FILE, FILE_PAGE, 0, 0, 0, 0);
 	long result;
 
 	if (file < 0)
@@ -187,14 +135,29 @@ static bool map_page(const struct target *target, uint64_t at, uint64_t path)
 	return result == (long)at;
 }
 
+/* Returns the address of one of the functions, or of image_none. */
+static uint64_t place_of(uint64_t base, uint64_t function, uint64_t image)
+{
+	const Elf64_Ehdr *start = (const Elf64_Ehdr *)image_start;
+
+	return function ? base + function : image + start->e_entry;
+}
+
 /* Copies the head to an address, and the image after it. */
 static bool copy_image(const struct target *target, uint64_t at)
 {
+	uint64_t base = target->vdso, image = at + HEAD_BYTES;
 	size_t size = (size_t)(image_end - image_start);
 	struct iovec here[2] = { { &head, HEAD_BYTES },
 				 { (void *)image_start, size } };
 	struct iovec there = { (void *)at, HEAD_BYTES + size };
 
+	head.gettime = vdso.gettime ? (host_clock *)(base + vdso.gettime)
+				    : NULL;
+	head.getcpu = place_of(base, vdso.getcpu, image);
+	head.getrandom = place_of(base, vdso.getrandom, image);
+	head.sgx_enter_enclave =
+		place_of(base, vdso.sgx_enter_enclave, image);
 	return process_vm_writev(target->thread, here, 2, &there, 1, 0) ==
 	       (ssize_t)there.iov_len;
 }
@@ -210,8 +173,7 @@ static uint64_t map_all(const struct target *target)
 
 	if (at < 0)
 		return 0;
-	if (copy_image(target, start) &&
-	    map_page(target, page, start + offsetof(union image_head, path)) &&
+	if (copy_image(target, start) && map_page(target, page) &&
 	    !make_call(target, SYS_mprotect, start, code, PROT_READ | PROT_EXEC,
 		       0, 0))
 		return start + HEAD_BYTES;
@@ -222,15 +184,14 @@ static uint64_t map_all(const struct target *target)
 /* A filter of the program's own might end it for one of these calls. */
 uint64_t image_give(pid_t thread, uint64_t base)
 {
-	struct target target = { .thread = thread, .call = base + vdso.call };
+	struct target target = { .thread = thread,
+				 .vdso = base,
+				 .call = base + vdso.call };
 	uint64_t image;
 
 	if (!is_offered || filter_count(thread) != filters || !go_on(thread) ||
-	    ptrace(PTRACE_GETREGS, thread, 0, &target.start) ||
-	    target.start.cs != CODE_64)
+	    ptrace(PTRACE_GETREGS, thread, 0, &target.start))
 		return 0;
-	head.gettime = vdso.gettime ? (host_clock *)(base + vdso.gettime)
-				    : NULL;
 	image = map_all(&target);
 	ptrace(PTRACE_SETREGS, thread, 0, &target.start);
 	return image;

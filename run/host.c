@@ -3,6 +3,7 @@
 #include "host.h"
 
 #include <errno.h>
+#include <fcntl.h>
 #include <limits.h>
 #include <linux/futex.h>
 #include <pthread.h>
@@ -19,6 +20,14 @@ int host_gettime_by_call(clockid_t clock, struct timespec *out)
 		return 0;
 	errno = (int)-result;
 	return -1;
+}
+
+long host_open(const char *path, int flags, enum clock_file which)
+{
+	long file = host_call(SYS_open, (long)path, flags | O_CLOEXEC, 0, 0, 0, 0);
+	long given = file < 0 ? host_call(CALL_FILE, which, 0, 0, 0, 0, 0) : file;
+
+	return given < 0 ? file : given;
 }
 
 uint64_t host_nanos(clockid_t clock)

@@ -55,6 +55,28 @@ uint64_t host_nanos(clockid_t clock);
  * filter of a run lets it pass. */
 #define HOST_CALL 0x746b7275
 
+/*
+ * System calls that no kernel has: the filter of a run sends them to tkrun. It answers the first
+ * with a file of the clocks. So a process gets the clocks also if it has another root, another
+ * /dev/shm, or no environment. By the second, the library says that it has the clocks, if tkrun
+ * can't know it because the program wasn't traced.
+ */
+enum { CALL_FILE = 0x746b72, CALL_ATTACHED };
+
+/* The argument of CALL_FILE. A process of another user doesn't get the two in the middle. */
+enum clock_file {
+	FILE_PAGE,
+	FILE_PAGE_WRITABLE,
+	FILE_CONTROL,
+	FILE_ROWS, /* of the record */
+	FILE_LOG,
+	CLOCK_FILES
+};
+
+/* Opens a file by its path, or else by asking tkrun: the process may have another root, or have
+ * become another user. Returns its number, or minus an error. */
+long host_open(const char *path, int flags, enum clock_file which);
+
 /* Sleeps for `nanos` ns of the host's time, or until a signal comes. */
 void host_nap(uint64_t nanos);
 

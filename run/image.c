@@ -1,14 +1,16 @@
 /* SPDX-License-Identifier: MIT OR Apache-2.0 */
 /*
- * The vDSO of programs without the library. It reads the clocks where they are
- * mapped in front of it. For all that it can't read it makes the system call,
- * which the filter sends to tkrun. It runs before a program has set up anything,
+ * The vDSO of the programs of a run: of those without the library, and of those
+ * that read clocks past the library. It reads the clocks where they are mapped in
+ * front of it. For all that it can't read it makes the system call, which the
+ * filter sends to tkrun. It runs before a program has set up anything,
  * also on the small stacks of Go. So it has no data and no thread-local
  * variables, and calls nothing but libtkcore.a and the kernel's own vDSO.
  */
 #define _GNU_SOURCE
 #include "image.h"
 
+#include <errno.h>
 #include <sys/syscall.h>
 
 enum { TRIES_MOST = 100000 }; /* while a writer is inside */
@@ -70,10 +72,13 @@ static bool try_look(const struct shared_page *shared, struct look *look)
 static bool read_clock(uint32_t clock, struct tkc_time *out)
 {
 	const struct shared_page *shared = in_front(HEAD_BYTES + SHARED_BYTES);
+	const union image_head *head = in_front(HEAD_BYTES);
 	struct tkc_snapshot snapshot;
 	struct look look;
 	int tries = 0;
 
+	if (head->makes_calls)
+		return false;
 	while (!try_look(shared, &look)) {
 		if (++tries > TRIES_MOST)
 			return false;
@@ -107,6 +112,18 @@ OFFERED int __vdso_clock_gettime(clockid_t clock, struct timespec *out)
 	return 0;
 }
 
+OFFERED int __vdso_clock_getres(clockid_t clock, struct timespec *out)
+{
+	const struct shared_page *shared = in_front(HEAD_BYTES + SHARED_BYTES);
+
+	if (!has_clock(clock))
+		return (int)host_call(SYS_clock_getres, clock, (long)out, 0, 0,
+				      0, 0);
+	if (out)
+		*out = machine_resolution(shared, clock);
+	return 0;
+}
+
 OFFERED int __vdso_gettimeofday(struct timeval *out, struct timezone *zone)
 {
 	struct tkc_time now;
@@ -127,4 +144,29 @@ OFFERED time_t __vdso_time(time_t *out)
 	if (out)
 		*out = now.sec;
 	return now.sec;
+}
+
+/*
+ * What has nothing to do with clocks: a jump to the kernel's own function, whose address is so far
+ * in front of the image, with all registers as they are. Where the kernel has none, the head has
+ * the address of image_none.
+ */
+#define FORWARD(name, back)                                             \
+	__asm__(".pushsection .text.forward, \"ax\"\n"                   \
+		".globl __vdso_" #name "\n"                              \
+		".type __vdso_" #name ", @function\n"                    \
+		"__vdso_" #name ": jmp *__ehdr_start - " #back "(%rip)\n" \
+		".size __vdso_" #name ", . - __vdso_" #name "\n"         \
+		".popsection");                                         \
+	_Static_assert(HEAD_BYTES - offsetof(union image_head, name) == back,   \
+		       "the head's layout")
+
+FORWARD(getcpu, 4080);
+FORWARD(getrandom, 4072);
+FORWARD(sgx_enter_enclave, 4064);
+
+/* The image's entry, by which tkrun finds it. */
+long image_none(void)
+{
+	return -ENOSYS;
 }

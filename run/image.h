@@ -1,11 +1,14 @@
 /* SPDX-License-Identifier: MIT OR Apache-2.0 */
-/* image.h - the vDSO of programs without the library. */
+/* image.h - the vDSO of the programs of a run. */
 #ifndef IMAGE_H
 #define IMAGE_H
 
 #include "counter.h"
 
-enum { PAGE_BYTES = 4096, FOLDER_MOST = 4000 };
+#include <elf.h>
+#include <string.h>
+
+enum { PAGE_BYTES = 4096 };
 
 /* What is in front of the image, in its own page. In front of that page is the
  * file `page` of the clocks. */
@@ -13,7 +16,9 @@ union image_head {
 	struct {
 		/* the kernel's own vDSO's, or NULL if it can't read clocks */
 		host_clock *gettime;
-		char path[FOLDER_MOST]; /* of the file `page` */
+		uint64_t makes_calls; /* a record needs each read as a call */
+		/* what the kernel's own vDSO offers apart from clocks */
+		uint64_t getcpu, getrandom, sgx_enter_enclave;
 	};
 	char bytes[PAGE_BYTES];
 };
@@ -24,8 +29,25 @@ enum {
 	HEAD_BYTES = sizeof(union image_head),
 };
 
-/* Lets programs have the image, with the clocks of a folder. */
-void image_offer(const struct machine *machine, const char *folder);
+/* The bytes by which the image differs from the kernel's own vDSO, at EI_PAD. tools/build_run
+ * writes them. */
+#define IMAGE_MARK "tkrun 1"
+
+/* Returns the head of the image, or NULL if another vDSO is at this address. */
+static inline const union image_head *image_head_of(uint64_t vdso)
+{
+	if (!vdso || memcmp((const char *)vdso + EI_PAD, IMAGE_MARK,
+			    EI_NIDENT - EI_PAD) != 0)
+		return NULL;
+	return (const union image_head *)(vdso - HEAD_BYTES);
+}
+
+/* The bytes of the image. */
+extern const char image_start[] __attribute__((visibility("hidden")));
+extern const char image_end[] __attribute__((visibility("hidden")));
+
+/* Lets programs have the image. */
+void image_offer(const struct machine *machine);
 
 /* Gives the image to a thread that has just executed a program, and is traced.
  * Returns the image's address, or 0 if the program can't have it. `vdso` is the

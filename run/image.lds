@@ -3,6 +3,8 @@
  * How the image of run/image.c is linked: as one segment, whose bytes in memory
  * are those of the file. No relocations are done, and nothing writes to it.
  */
+ENTRY(image_none)
+
 SECTIONS
 {
 	. = SIZEOF_HEADERS;
@@ -16,7 +18,7 @@ SECTIONS
 	.rodata : { *(.rodata .rodata.* .data.rel.ro .data.rel.ro.*) } :text
 	.eh_frame_hdr : { *(.eh_frame_hdr) } :text :frames
 	.eh_frame : { KEEP(*(.eh_frame)) } :text
-	.text : { *(.text .text.*) } :text
+	.text : { *(.text) KEEP(*(.text.forward)) *(.text.*) } :text
 	.rela : { *(.rela .rela.*) } :text
 	.got : { *(.got .got.*) } :text
 	.data : { *(.data .data.* .tdata .tdata.* .bss .bss.* .tbss .tbss.*) } :text
@@ -37,8 +39,12 @@ VERSION
 {
 	LINUX_2.6 {
 	global:
+		__vdso_clock_getres;
 		__vdso_clock_gettime;
+		__vdso_getcpu;
+		__vdso_getrandom;
 		__vdso_gettimeofday;
+		__vdso_sgx_enter_enclave;
 		__vdso_time;
 	local:
 		*;

@@ -12,6 +12,10 @@
 #include <string.h>
 #include <sys/syscall.h>
 
+#ifdef LIBRARY /* which C libraries load that lack it, and where it isn't called */
+extern __typeof__(strerrorname_np) strerrorname_np __attribute__((weak));
+#endif
+
 enum { SET_BYTES = 8 }; /* a set of signals, for the kernel */
 
 /* Writes to a file. If the file's size has reached its limit, the kernel sends
@@ -38,8 +42,7 @@ static long write_all(long file, const char *line, size_t length)
  * or an error. */
 static int write_line(const char *path, const char *line, size_t length)
 {
-	long file = host_call(SYS_open, (long)path,
-			      O_WRONLY | O_APPEND | O_CLOEXEC, 0, 0, 0, 0);
+	long file = host_open(path, O_WRONLY | O_APPEND, FILE_LOG);
 	long result;
 
 	if (file < 0)

@@ -8,24 +8,31 @@
 #include <sys/stat.h>
 #include <unistd.h>
 
-static void *map_file(const char *folder, const char *name, size_t size,
-		      bool is_read_only)
+/* Opens a file of the clocks. Returns -1, or minus an error, if it can't. */
+static int open_file(const char *folder, enum clock_file which)
 {
 	char path[4096];
-	struct stat status;
-	void *memory;
-	int file;
 
-	snprintf(path, sizeof(path), "%s/%s", folder, name);
-	file = open(path, (is_read_only ? O_RDONLY : O_RDWR) | O_CLOEXEC);
+	if (!folder)
+		return (int)host_call(CALL_FILE, which, 0, 0, 0, 0, 0);
+	snprintf(path, sizeof(path), "%s/%s", folder,
+		 which == FILE_CONTROL ? "control" : "page");
+	return open(path,
+		    (which == FILE_PAGE ? O_RDONLY : O_RDWR) | O_CLOEXEC);
+}
+
+static void *map_file(const char *folder, enum clock_file which, size_t size)
+{
+	int file = open_file(folder, which);
+	struct stat status;
+	void *memory = MAP_FAILED;
+
 	if (file < 0)
 		return NULL;
-	if (fstat(file, &status) || (size_t)status.st_size < size) {
-		close(file);
-		return NULL;
-	}
-	memory = mmap(NULL, size, PROT_READ | (is_read_only ? 0 : PROT_WRITE),
-		      MAP_SHARED, file, 0);
+	if (!fstat(file, &status) && (size_t)status.st_size >= size)
+		memory = mmap(NULL, size,
+			      PROT_READ | (which == FILE_PAGE ? 0 : PROT_WRITE),
+			      MAP_SHARED, file, 0);
 	close(file);
 	return memory == MAP_FAILED ? NULL : memory;
 }
@@ -33,13 +40,13 @@ static void *map_file(const char *folder, const char *name, size_t size,
 bool machine_attach(struct machine *machine, const char *folder)
 {
 	struct shared_page *shared =
-		map_file(folder, "page", sizeof(*shared), false);
+		map_file(folder, FILE_PAGE_WRITABLE, sizeof(*shared));
 
 	if (shared)
-		machine->control = map_file(folder, "control",
-					    sizeof(*machine->control), false);
+		machine->control = map_file(folder, FILE_CONTROL,
+					    sizeof(*machine->control));
 	else
-		shared = map_file(folder, "page", sizeof(*shared), true);
+		shared = map_file(folder, FILE_PAGE, sizeof(*shared));
 	if (!shared || shared->layout != MACHINE_LAYOUT ||
 	    tkc_page_attach(&shared->page))
 		return false;

@@ -47,6 +47,7 @@ struct shared_page {
 	uint64_t base, scale, mask, first;
 	uint32_t scale_shift;
 	bool denies_set, has_stamps;
+	bool has_filter; /* tkrun answers system calls, and counts the programs */
 	bool calls_host; /* the vDSO can't read the host's clocks */
 	double nanos_per_cycle; /* of the host */
 	double speed;		/* ns of the counter in a ns of the host */
@@ -100,6 +101,7 @@ enum host_wait {
 	HOST_MESSAGES,
 	HOST_FUTEX,
 	HOST_ASYNCHRONOUS,
+	HOST_VDSO, /* its functions may be read, though they aren't waits */
 	HOST_WAITS,
 };
 
@@ -149,7 +151,8 @@ struct order {
 	int64_t number;
 };
 
-/* Maps the files of a folder. Returns false if they aren't a machine's. */
+/* Maps the files of a folder, or those that tkrun gives this process if it is NULL.
+ * Returns false if they aren't a machine's. */
 bool machine_attach(struct machine *machine, const char *folder);
 
 /* Makes the lock of a new control file. */

@@ -29,7 +29,8 @@ static const char USAGE[] =
 	"  --deny-set                calls that set the clocks get EPERM\n"
 	"  --stamps                  converts the kernel's stamps of packets\n"
 	"  --log FILE                writes a line for each call that sets the clocks\n"
-	"  --static                  answers programs without the library too\n"
+	"  --lax                     a program on the host's clocks doesn't end the run\n"
+	"  --static                  starts nothing if tkrun can't answer system calls\n"
 	"  --quiet                   prints no summary\n";
 
 void fail(int status, const char *form, ...)
@@ -137,6 +138,16 @@ static enum counter_kind parse_counter(const char *text)
 	fail(STATUS_WRONG, "--counter: '%s' isn't raw, tsc or sleeps", text);
 }
 
+static void set_flag(struct options *o, const char *name)
+{
+	o->is_checked |= !strcmp(name, "check");
+	o->denies_set |= !strcmp(name, "deny-set");
+	o->has_stamps |= !strcmp(name, "stamps");
+	o->is_static |= !strcmp(name, "static");
+	o->is_lax |= !strcmp(name, "lax");
+	o->is_quiet |= !strcmp(name, "quiet");
+}
+
 static void parse_option(struct options *o, const char *name)
 {
 	const char *value = optarg;
@@ -165,18 +176,10 @@ static void parse_option(struct options *o, const char *name)
 		o->record = value;
 	else if (!strcmp(name, "every"))
 		o->every = whole(name, value, 1, INT64_MAX);
-	else if (!strcmp(name, "check"))
-		o->is_checked = true;
-	else if (!strcmp(name, "deny-set"))
-		o->denies_set = true;
-	else if (!strcmp(name, "stamps"))
-		o->has_stamps = true;
 	else if (!strcmp(name, "log"))
 		o->log = value;
-	else if (!strcmp(name, "static"))
-		o->is_static = true;
-	else if (!strcmp(name, "quiet"))
-		o->is_quiet = true;
+	else
+		set_flag(o, name);
 	o->has_ahead |= !strcmp(name, "ahead");
 	o->has_uptime |= !strcmp(name, "uptime");
 	o->describes_counter |= !strcmp(name, "hz") || !strcmp(name, "bits") ||
@@ -228,7 +231,8 @@ void parse_options(int count, char **words, struct options *options)
 		{ "check", 0, 0, 0 },	  { "deny-set", 0, 0, 0 },
 		{ "stamps", 0, 0, 0 },	  { "log", 1, 0, 0 },
 		{ "static", 0, 0, 0 },	  { "quiet", 0, 0, 0 },
-		{ "help", 0, 0, 'h' },	  { "version", 0, 0, 'v' },
+		{ "lax", 0, 0, 0 },	  { "help", 0, 0, 'h' },
+		{ "version", 0, 0, 'v' },
 		{ 0, 0, 0, 0 },
 	};
 	int letter, index;

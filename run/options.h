@@ -9,6 +9,7 @@ enum {
 	STATUS_WRONG = 2,	/* a wrong option */
 	STATUS_DIFFERS = 3,	/* a value that --check doesn't reproduce */
 	STATUS_UNCHECKED = 4,	/* a value that --check couldn't compare */
+	STATUS_UNCOVERED = 4,	/* a program that reads the host's clocks */
 	STATUS_FAILED = 125,	/* tkrun itself failed */
 	STATUS_NOT_RUN = 126,	/* PROGRAM can't be run */
 	STATUS_NOT_FOUND = 127, /* there is no PROGRAM */
@@ -32,7 +33,7 @@ struct options {
 	uint32_t uptime_nsec;
 	const char *script, *record, *log;
 	uint64_t every;
-	bool is_checked, denies_set, has_stamps, is_quiet, is_static;
+	bool is_checked, denies_set, has_stamps, is_quiet, is_static, is_lax;
 	char **program;
 };
 

@@ -16,8 +16,7 @@ static _Atomic(struct record_row *) chunks[CHUNKS_MOST];
 static struct record_row *map_chunk(const struct rows *rows, uint64_t number)
 {
 	const long size = ROWS_IN_CHUNK * sizeof(struct record_row);
-	long file = host_call(SYS_open, (long)rows->path, O_RDWR | O_CLOEXEC, 0,
-			      0, 0, 0);
+	long file = host_open(rows->path, O_RDWR, FILE_ROWS);
 	struct record_row *other = NULL;
 	long chunk;
 

@@ -39,9 +39,9 @@ void signals_block(sigset_t *waited)
 		sigaction(CHANGED[i], NULL, &actions[i]);
 	/* a record at the limit of a file's size ends, and the program goes on */
 	signal(SIGXFSZ, SIG_IGN);
-	*waited = blocked;
-	sigdelset(waited, SIGINT);
-	sigdelset(waited, SIGQUIT);
+	sigemptyset(waited);
+	sigaddset(waited, SIGCHLD);
+	sigaddset(waited, SIGHUP);
 	sigprocmask(SIG_BLOCK, &blocked, &mask);
 }
 

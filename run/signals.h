@@ -3,8 +3,8 @@
  * signals.h - the signals that end tkrun, or that a process which tkrun starts gets.
  *
  * SIGTERM, SIGHUP, SIGINT and SIGQUIT would end tkrun before it has removed its files.
- * So it blocks them, waits for the first two, and passes them on. A terminal sends the
- * other two to the program as well.
+ * So it blocks them, and ends all processes at SIGTERM and SIGINT. It passes SIGHUP on,
+ * and ignores SIGQUIT, which a terminal sends to the program as well.
  */
 #ifndef SIGNALS_H
 #define SIGNALS_H

@@ -2,6 +2,7 @@
 /* Starts the program of a run. */
 #define _GNU_SOURCE
 #include "tkrun.h"
+#include "uncovered.h"
 
 #include <errno.h>
 #include <fcntl.h>
@@ -16,52 +17,6 @@
 #include <sys/syscall.h>
 #include <sys/wait.h>
 #include <unistd.h>
-
-/* The library, which tools/build_run puts next to the folder of tkrun. */
-static void find_library(char *path, size_t size)
-{
-	char self[PATH_MAX];
-	ssize_t length = readlink("/proc/self/exe", self, sizeof(self) - 1);
-
-	self[length < 0 ? 0 : length] = 0;
-	for (int i = 0; i < 2 && strrchr(self, '/'); i++)
-		*strrchr(self, '/') = 0;
-	if (snprintf(path, size, "%s/lib/libtkrun.so", self) >= (int)size ||
-	    access(path, R_OK))
-		fail(STATUS_FAILED, "cannot read the library '%s'", path);
-	if (strpbrk(path, " :"))
-		fail(STATUS_FAILED,
-		     "the library '%s' can't be preloaded: its name has a space or a colon",
-		     path);
-}
-
-/* Puts the library in front of LD_PRELOAD, without that of a tkrun outside. */
-static void set_preload(const char *library)
-{
-	const char *others = getenv("LD_PRELOAD");
-	char *copy = strdup(others ? others : ""), *end, *name;
-	char *list = malloc(strlen(library) + strlen(others ? others : "") + 2);
-
-	if (!copy || !list)
-		fail(STATUS_FAILED, "out of memory");
-	end = stpcpy(list, library);
-	for (name = strtok(copy, " :"); name; name = strtok(NULL, " :")) {
-		if (strcmp(basename(name), "libtkrun.so"))
-			end += sprintf(end, ":%s", name);
-	}
-	if (setenv("LD_PRELOAD", list, 1))
-		fail(STATUS_FAILED, "out of memory");
-	free(list);
-	free(copy);
-}
-
-void preload_library(void)
-{
-	char library[PATH_MAX];
-
-	find_library(library, sizeof(library));
-	set_preload(library);
-}
 
 /* A call that the library doesn't answer must not set the host's clock. So
  * neither the program nor a file that it runs may get CAP_SYS_TIME. Who may not
@@ -127,25 +82,24 @@ static bool receive_report(int socket, int *error, int *file)
 }
 
 /* Installs the filter. Without one nothing holds the child back until tkrun has
- * read the report, so with --static it ends here. */
-static void install_filter(int socket, bool is_static)
+ * read the report, so it ends here if it needs the filter. */
+static void install_filter(int socket, bool needs_filter)
 {
 	int file = filter_install();
 
 	send_report(socket, file < 0 ? -file : 0, file);
 	if (file >= 0)
 		close(file);
-	else if (is_static)
+	else if (needs_filter)
 		_exit(STATUS_FAILED);
 }
 
 /* Becomes the program, or reports an error. */
-static void become_program(const struct run *run, int socket, bool has_filter)
+static void become_program(const struct run *run, int socket, bool needs_filter)
 {
 	char **program = run->options.program;
 
-	if (has_filter)
-		install_filter(socket, run->options.is_static);
+	install_filter(socket, needs_filter);
 	drop_sys_time();
 	signals_restore();
 	if (!setenv("TKRUN", run->folder, 1))
@@ -206,34 +160,53 @@ static void stop_child(const struct run *run)
 /* Starts the threads that answer the calls. */
 static void answer_calls(struct run *run)
 {
-	exec_start(&run->machine, run->folder);
-	if (sleepers_start(&run->machine, run->listener))
-		run->execs = answers_start(&run->machine, run->listener);
-	if (run->execs >= 0)
+	exec_start(&run->machine);
+	run->machine.shared->has_filter = true;
+	run->execs = files_open(&run->machine, run->folder) ? execs_open() : -1;
+	if (run->execs >= 0 && sleepers_start(&run->machine, run->listener) &&
+	    answers_start(&run->machine, run->listener))
 		return;
 	stop_child(run);
-	fail(STATUS_FAILED, "cannot start a thread");
+	fail(STATUS_FAILED, "cannot answer system calls: %s", strerror(errno));
 }
 
-/* Takes the filter's listener, and answers its calls. Without a filter the
- * program reads the host's clocks, which --static doesn't allow. */
-static void take_filter(struct run *run, int socket)
+/* Goes on without a filter, unless --static is there or a static program would read the host's
+ * clocks. */
+static void miss_filter(struct run *run, bool is_static, int error)
 {
-	int error = EIO;
+	char reason[128];
 
-	receive_report(socket, &error, &run->listener);
-	if (run->listener >= 0) {
-		answer_calls(run);
-	} else if (run->options.is_static) {
+	if (run->options.is_static) {
 		stop_child(run);
 		fail(STATUS_FAILED,
 		     "--static: the kernel lets no filter ask tkrun: %s",
 		     strerror(error));
-	} else if (!run->options.is_quiet) {
-		fprintf(stderr,
-			"tkrun: '%s' is static, and reads the host's clocks: the kernel lets no filter ask tkrun: %s\n",
-			*run->options.program, strerror(error));
 	}
+	snprintf(reason, sizeof(reason),
+		 "it is static, and the kernel lets no filter ask tkrun: %s",
+		 strerror(error));
+	if (is_static)
+		uncovered_note(*run->options.program, run->child, reason);
+	else if (!run->options.is_quiet)
+		fprintf(stderr,
+			"tkrun: the kernel lets no filter ask tkrun: %s: a program without the library is found only if it runs for 0.2 s\n",
+			strerror(error));
+	if (!uncovered_is_over())
+		return;
+	stop_child(run);
+	exit(STATUS_UNCOVERED);
+}
+
+/* Takes the filter's listener, and answers its calls. */
+static void take_filter(struct run *run, int socket, bool is_static)
+{
+	int error = EIO;
+
+	receive_report(socket, &error, &run->listener);
+	if (run->listener >= 0)
+		answer_calls(run);
+	else
+		miss_filter(run, is_static, error);
 }
 
 static void check_start(struct run *run, int error)
@@ -250,8 +223,9 @@ static void check_start(struct run *run, int error)
 
 void start_program(struct run *run)
 {
-	bool has_filter = run->options.is_static ||
-			  is_static_program(*run->options.program);
+	bool is_static = is_static_program(*run->options.program);
+	bool needs_filter = run->options.is_static ||
+			    (is_static && !run->options.is_lax);
 	int ends[2], error = 0;
 
 	run->listener = run->execs = -1;
@@ -260,12 +234,12 @@ void start_program(struct run *run)
 		     strerror(errno));
 	run->child = fork();
 	if (!run->child)
-		become_program(run, ends[1], has_filter);
+		become_program(run, ends[1], needs_filter);
 	close(ends[1]);
 	if (run->child < 0)
 		error = errno;
-	else if (has_filter)
-		take_filter(run, ends[0]);
+	else
+		take_filter(run, ends[0], is_static);
 	if (run->child > 0)
 		error = serve_start(run, ends[0]);
 	close(ends[0]);
@@ -276,7 +250,9 @@ void serve_execs(struct run *run)
 {
 	struct seccomp_notif ask;
 
-	while (run->execs >= 0 &&
-	       read(run->execs, &ask, sizeof(ask)) == sizeof(ask))
+	if (run->execs < 0)
+		return;
+	execs_wait_no_more();
+	while (execs_take(&ask))
 		exec_follow(run->listener, &ask);
 }

@@ -1,9 +1,9 @@
 /* SPDX-License-Identifier: MIT OR Apache-2.0 */
 /*
- * static.h - programs that no library can be loaded into. A filter of their
- * system calls asks tkrun for the calls about time. Their vDSO is replaced when
- * they are executed: by the image of image.c, which reads the clocks, or by none,
- * so that they make these calls.
+ * static.h - the calls about time that the library doesn't answer. A filter of the
+ * system calls of all processes asks tkrun for them. The vDSO of each program is
+ * replaced when it is executed: by the image of image.c, which reads the clocks, or by
+ * none, so that it makes these calls.
  */
 #ifndef STATIC_H
 #define STATIC_H
@@ -34,8 +34,9 @@ bool filter_asks_sleep(long call);
  * another one may have the thread's number. */
 bool filter_has_call(int listener, uint64_t id);
 
-/* Lets the kernel make the call. */
+/* Let the kernel make the call, or let it fail. */
 void filter_continue(int listener, uint64_t id);
+void filter_refuse(int listener, uint64_t id, int error);
 
 /* Returns whether a call executes a program. */
 bool is_exec(const struct seccomp_notif *ask);
@@ -76,23 +77,34 @@ bool sleepers_have(const struct waiter *waiter, uint64_t owner);
 /* Starts the thread that answers sleeps. Returns false if it can't. */
 bool sleepers_start(struct machine *machine, int listener);
 
-/* Starts the thread that answers. It passes on what executes a program: tkrun
- * reads it from the file that this returns, when SIGCHLD comes. Returns -1 if
- * it can't. */
-int answers_start(struct machine *machine, int listener);
+/* Starts the thread that answers. Returns false if it can't. */
+bool answers_start(struct machine *machine, int listener);
+
+/* Opens the files of the clocks. Returns false if it can't. */
+bool files_open(const struct machine *machine, const char *folder);
+
+/* Returns whether a thread is of the user who may command the clocks. */
+bool files_may_command(int thread);
+
+/* Gives one to a process that has asked for it, and stores its number there. Returns 0 or an
+ * errno. */
+int files_give(int listener, const struct seccomp_notif *ask, int64_t *value);
+
+/* The programs that wait for being executed. The file that execs_open returns can be read when
+ * there may be some, and SIGCHLD comes; execs_wait_no_more empties it. Returns -1 if it can't. */
+int execs_open(void);
+void execs_add(int listener, const struct seccomp_notif *ask);
+bool execs_take(struct seccomp_notif *ask);
+void execs_wait_no_more(void);
 
 /* Lets the sleeps be looked at, since the counter has moved. */
 void sleepers_wake(void);
 
-/* Lets programs that are executed have the clocks of a folder. */
-void exec_start(struct machine *machine, const char *folder);
+/* Lets programs that are executed have the clocks. */
+void exec_start(struct machine *machine);
 
-/* Lets a thread execute a program, and follows it until it has. A program
- * without the library that can't be followed is noted. */
+/* Lets a thread execute a program, and follows it until it has. */
 void exec_follow(int listener, const struct seccomp_notif *ask);
-
-/* Prints the names of the programs that were noted. */
-void exec_print_missed(void);
 
 /* Handles the stop of a thread that is followed. */
 void exec_stopped(pid_t thread, int status);

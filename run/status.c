@@ -7,6 +7,7 @@
 #include <stdio.h>
 #include <stdlib.h>
 #include <string.h>
+#include <sys/stat.h>
 #include <unistd.h>
 
 bool proc_read(const char *path, char *text, size_t size)
@@ -38,6 +39,22 @@ char *proc_read_list(const char *path)
 	return text;
 }
 
+bool is_tkrun_file(const char *path)
+{
+	struct stat own, other;
+
+	return !stat("/proc/self/exe", &own) && !stat(path, &other) &&
+	       own.st_ino == other.st_ino && own.st_dev == other.st_dev;
+}
+
+bool proc_is_tkrun(int process)
+{
+	char path[64];
+
+	snprintf(path, sizeof(path), "/proc/%d/exe", process);
+	return is_tkrun_file(path);
+}
+
 bool status_read(int thread, char text[STATUS_BYTES])
 {
 	char path[64];
@@ -64,6 +81,16 @@ uint64_t status_number(const char *status, const char *name, int base)
 	const char *value = value_of(status, name);
 
 	return value ? strtoull(value, NULL, base) : 0;
+}
+
+uid_t status_user(const char *status)
+{
+	const char *value = value_of(status, "Uid");
+	uid_t user = (uid_t)-1;
+
+	if (value)
+		sscanf(value, "%*u %u", &user);
+	return user;
 }
 
 char status_state(const char *status)

@@ -6,6 +6,7 @@
 #include <stdbool.h>
 #include <stddef.h>
 #include <stdint.h>
+#include <sys/types.h>
 
 /* Enough for the longest line, which lists the groups of a process: 5,000 of them. */
 enum { STATUS_BYTES = 65536 };
@@ -17,11 +18,19 @@ bool proc_read(const char *path, char *text, size_t size);
  * which the caller frees, or NULL if it is empty or gone, or memory is missing. */
 char *proc_read_list(const char *path);
 
+/* Return whether a file is tkrun, and whether a process runs it: a tkrun inside this one makes
+ * clocks on the host's counter. */
+bool is_tkrun_file(const char *path);
+bool proc_is_tkrun(int process);
+
 /* Reads the status of a thread or a process. Returns false if it is gone. */
 bool status_read(int thread, char text[STATUS_BYTES]);
 
 /* Returns the number of a line, in this base, or 0 if there is no such line. */
 uint64_t status_number(const char *status, const char *name, int base);
+
+/* Returns the effective user, or -1. */
+uid_t status_user(const char *status);
 
 /* Returns the letter of the state, or 0. */
 char status_state(const char *status);

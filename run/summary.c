@@ -2,6 +2,7 @@
 /* What tkrun prints at the end of a run. */
 #define _GNU_SOURCE
 #include "tkrun.h"
+#include "uncovered.h"
 
 #include <inttypes.h>
 #include <stdio.h>
@@ -22,6 +23,8 @@ static void print_host_waits(const struct control *control)
 			"FUTEX_WAIT_REQUEUE_PI waited by the host's time",
 		[HOST_ASYNCHRONOUS] =
 			"io_uring or io_getevents waits by the host's time",
+		[HOST_VDSO] =
+			"a program that another one traces may have read the host's clocks by its vDSO",
 	};
 
 	for (int i = 0; i < HOST_WAITS; i++) {
@@ -46,8 +49,12 @@ void print_summary(const struct run *run)
 			"tkrun: took over %" PRIu64
 			" times from a process that died amid a command\n",
 			control->recovered);
-	exec_print_missed();
-	print_host_waits(control);
+}
+
+void print_faults(const struct run *run)
+{
+	uncovered_print_rest();
+	print_host_waits(run->machine.control);
 }
 
 void print_log(const struct run *run)

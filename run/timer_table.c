@@ -146,7 +146,12 @@ static void in_child(void)
 	after_fork();
 }
 
+/* What pthread_atfork calls. Only glibc has it, and the library must be loaded by others too. */
+extern int __register_atfork(void (*)(void), void (*)(void), void (*)(void),
+			     void *) __attribute__((weak));
+extern void *__dso_handle __attribute__((visibility("hidden")));
+
 void timers_hook_forks(void)
 {
-	pthread_atfork(before_fork, after_fork, in_child);
+	__register_atfork(before_fork, after_fork, in_child, &__dso_handle);
 }

@@ -7,7 +7,9 @@
  * loaded, and brings the clocks forward until no process is left.
  */
 #define _GNU_SOURCE
+#include "looks.h"
 #include "tkrun.h"
+#include "uncovered.h"
 
 #include <errno.h>
 #include <inttypes.h>
@@ -19,7 +21,7 @@
 #include <unistd.h>
 
 enum {
-	WARN_NANOS = 100000000, /* the span between two looks at /proc */
+	LOOK_NANOS = 100000000, /* the span between two looks at processes */
 	NAP_NANOS = 50000,	/* between two looks at waiting threads */
 };
 
@@ -49,15 +51,14 @@ static uint64_t step_clocks(struct run *run)
 						    : shared->update_nanos;
 }
 
-static void warn_now_and_then(struct run *run)
+static void look_now_and_then(struct run *run)
 {
 	uint64_t now = host_nanos(CLOCK_MONOTONIC);
 
-	if (run->options.is_quiet || run->listener >= 0 ||
-	    now - run->warned < WARN_NANOS)
+	if (now - run->looked < LOOK_NANOS)
 		return;
-	run->warned = now;
-	tree_warn(&run->tree);
+	run->looked = now;
+	looks_make(&run->tree, run->listener < 0);
 }
 
 static void note_child(struct run *run, pid_t child, int status)
@@ -81,27 +82,25 @@ static void pass_signal(struct run *run, int number)
 		tree_signal(&run->tree, number);
 }
 
-/* Waits for all processes, and passes SIGTERM and SIGHUP on. The program's
- * status is tkrun's. */
+/* Waits for all processes, and passes SIGHUP on. The program's status is tkrun's. */
 static void drive(struct run *run, const sigset_t *signals)
 {
 	struct timespec wait;
 	uint64_t left;
-	int status, number;
+	int status;
 	pid_t ended;
 
-	for (;;) {
+	while (!ending_is_over()) {
 		left = step_clocks(run);
 		serve_execs(run);
 		while ((ended = waitpid(-1, &status, WNOHANG | __WALL)) > 0)
 			note_child(run, ended, status);
 		if (ended < 0 && errno == ECHILD)
 			return;
-		warn_now_and_then(run);
+		look_now_and_then(run);
 		wait = span_of(left);
-		number = sigtimedwait(signals, NULL, &wait);
-		if (number == SIGTERM || number == SIGHUP)
-			pass_signal(run, number);
+		if (sigtimedwait(signals, NULL, &wait) == SIGHUP)
+			pass_signal(run, SIGHUP);
 	}
 }
 
@@ -188,6 +187,7 @@ static void end_run(struct run *run, bool is_recorded)
 
 	if (!run->options.is_quiet)
 		print_summary(run);
+	print_faults(run);
 	print_log(run);
 	if (is_recorded) {
 		is_written = recording_write(&run->recording, &run->machine,
@@ -239,6 +239,8 @@ int main(int count, char **words)
 	hold_standard_files();
 	parse_options(count, words, &run.options);
 	is_recorded = run.options.record || run.options.is_checked;
+	if (run.options.is_lax)
+		uncovered_allow();
 	find_host_clock(&run);
 	preload_library();
 	if (run.options.is_checked)
@@ -248,6 +250,7 @@ int main(int count, char **words)
 	signals_block(&signals);
 	atexit(remove_all);
 	open_machine(&run);
+	looks_start(run.folder);
 	if (run.options.log)
 		strcpy(run.machine.control->log.path, run.options.log);
 	if (is_recorded)
@@ -259,7 +262,11 @@ int main(int count, char **words)
 	start_program(&run);
 	signals_ignore();
 	watch_lock(&run);
+	ending_watch();
 	drive(&run, &signals);
+	ending_watch_no_more();
 	end_run(&run, is_recorded);
+	if (uncovered_is_over() && run.status != STATUS_DIFFERS)
+		return STATUS_UNCOVERED;
 	return run.status;
 }

@@ -18,11 +18,11 @@ struct run {
 	struct tree tree;
 	char folder[PATH_MAX - 64];
 	char scratch[PATH_MAX]; /* the folder of a record that isn't kept */
-	uint64_t started, warned;
+	uint64_t started, looked;
 	pid_t child; /* the program, or 0 when it has ended */
 	int status;
 	int listener; /* by which the kernel asks, or -1 */
-	int execs;    /* from which programs to execute come, or -1 */
+	int execs;    /* can be read if programs wait for being executed, or -1 */
 	bool calls_host; /* the vDSO can't read the host's clocks */
 };
 
@@ -65,8 +65,18 @@ void wake_changed(struct run *run);
  * clocks. */
 void watch_lock(struct run *run);
 
-/* Print what became of the run, of its log and of its record. */
+/* The first starts a thread that ends all processes when SIGTERM or SIGINT comes: it passes the
+ * signal on, and kills them after a second, or when the next one comes. The other ends it. */
+void ending_watch(void);
+void ending_watch_no_more(void);
+
+/* Returns whether processes go on that can't be killed. */
+bool ending_is_over(void);
+
+/* Print what became of the run, which times were the host's, and what became of its log and of
+ * its record. */
 void print_summary(const struct run *run);
+void print_faults(const struct run *run);
 void print_log(const struct run *run);
 void print_record(const struct run *run, bool is_written);
 

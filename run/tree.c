@@ -6,15 +6,14 @@
 #include "status.h"
 
 #include <dirent.h>
-#include <errno.h>
 #include <signal.h>
 #include <stdio.h>
 #include <stdlib.h>
 #include <string.h>
-#include <sys/stat.h>
+#include <sys/syscall.h>
 #include <unistd.h>
 
-enum { DEPTH_MOST = 64, PROGRAMS_MOST = 1024 };
+enum { DEPTH_MOST = 64 };
 
 /* Makes room for one more element. */
 static bool grow(void **list, size_t count, size_t *room, size_t size)
@@ -202,97 +201,37 @@ void tree_signal(struct tree *tree, int number)
 	}
 }
 
-/* A program that was seen in a process. */
-struct program {
-	int32_t process;
-	dev_t device;
-	ino_t file;
-	bool is_known; /* it has the library, or was warned of */
-};
-
-static bool has_library(int32_t process)
+/* Returns whether a process is below tkrun. */
+static bool is_below(int32_t process)
 {
-	char path[64], line[4096];
-	bool is_found = false;
-	FILE *file;
+	char status[STATUS_BYTES];
+	int depth = 0;
 
-	snprintf(path, sizeof(path), "/proc/%d/maps", process);
-	file = fopen(path, "re");
-	if (!file)
-		return false;
-	while (!is_found && fgets(line, sizeof(line), file))
-		is_found = strstr(line, "/libtkrun.so");
-	fclose(file);
-	return is_found;
+	while (process > 1 && process != getpid() && depth++ < DEPTH_MOST)
+		process = status_read(process, status)
+				  ? (int32_t)status_number(status, "PPid", 10)
+				  : 0;
+	return process == getpid();
 }
 
-static void warn(int32_t process, bool is_readable)
+/* Another process may have a number by now. So a file of the process is opened first: if the
+ * number's process is below tkrun after that, the file is of this one, or of one that has ended. */
+static void signal_process(int32_t process, int number)
 {
-	char path[64], name[64];
+	int file = (int)syscall(SYS_pidfd_open, process, 0);
 
-	snprintf(path, sizeof(path), "/proc/%d/comm", process);
-	if (!proc_read(path, name, sizeof(name)))
+	if (file < 0)
 		return;
-	name[strcspn(name, "\n")] = 0;
-	if (is_readable)
-		fprintf(stderr,
-			"tkrun: '%s' (process %d) reads the host's clocks: it is static or setuid, or its environment was cleared\n",
-			name, process);
-	else
-		fprintf(stderr,
-			"tkrun: '%s' (process %d) may not be looked at: if it is setuid, it reads the host's clocks\n",
-			name, process);
+	if (is_below(process))
+		syscall(SYS_pidfd_send_signal, file, number, NULL, 0);
+	close(file);
 }
 
-/* Returns the entry of the program that a process runs now, a new one if it
- * wasn't seen yet, or NULL. */
-static struct program *find_program(int32_t process, bool *is_new)
+size_t tree_signal_all(struct tree *tree, int number)
 {
-	static struct program seen[PROGRAMS_MOST];
-	static size_t next;
-	struct program *program;
-	struct stat status, own;
-	char path[64];
-
-	snprintf(path, sizeof(path), "/proc/%d/exe", process);
-	if (stat(path, &status)) {
-		if (errno != EACCES)
-			return NULL; /* it is gone */
-		status = (struct stat){ 0 };
-	}
-	if (stat("/proc/self/exe", &own) ||
-	    (status.st_ino == own.st_ino && status.st_dev == own.st_dev))
-		return NULL;
-	*is_new = false;
-	for (size_t i = 0; i < PROGRAMS_MOST; i++) {
-		if (seen[i].process == process &&
-		    seen[i].file == status.st_ino &&
-		    seen[i].device == status.st_dev)
-			return &seen[i];
-	}
-	*is_new = true;
-	seen[next] = (struct program){ process, status.st_dev, status.st_ino,
-				       false };
-	program = &seen[next];
-	next = (next + 1) % PROGRAMS_MOST;
-	return program;
-}
-
-void tree_warn(struct tree *tree)
-{
-	struct program *program;
-	bool is_new;
-
 	if (!tree_scan(tree))
-		return;
-	for (size_t i = 0; i < tree->process_count; i++) {
-		int32_t process = tree->processes[i].process;
-
-		program = find_program(process, &is_new);
-		if (!program || is_new || program->is_known)
-			continue;
-		program->is_known = true;
-		if (!has_library(process))
-			warn(process, program->file);
-	}
+		return 0;
+	for (size_t i = 0; i < tree->process_count; i++)
+		signal_process(tree->processes[i].process, number);
+	return tree->process_count;
 }

@@ -40,11 +40,7 @@ bool tree_is_quiet(struct tree *tree);
  * are theirs. */
 void tree_signal(struct tree *tree, int number);
 
-/*
- * Looks for processes that have not loaded libtkrun.so, and prints the name of
- * each program once. A process is looked at twice, since a new one loads its
- * libraries first.
- */
-void tree_warn(struct tree *tree);
+/* Sends a signal to all processes below tkrun. Returns their number. */
+size_t tree_signal_all(struct tree *tree, int number);
 
 #endif

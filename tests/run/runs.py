@@ -13,6 +13,7 @@ TKRUN = os.environ.get("TKRUN_PROGRAM", str(ROOT / "dist/bin/tkrun"))
 PROGRAMS = os.environ.get("TKRUN_TESTS", str(ROOT / "dist/tests"))  # tools/check_run compiles them
 SECONDS = 120  # the longest that a run may take
 
+CALLS = {"openat": "257", "ptrace": "101", "seccomp": "317"}  # the numbers of system calls
 STILL = ["--counter", "sleeps"]  # no time passes while programs compute
 OTHER = ["setpriv", "--reuid", "65531", "--regid", "65531", "--clear-groups"]  # another user
 IS_ROOT = os.geteuid() == 0
@@ -47,6 +48,17 @@ def program(name):
     return f"{PROGRAMS}/{name}"
 
 
+# prints the second of REALTIME by three functions of the C library, in Python
+LIBRARY = """import ctypes
+library = ctypes.CDLL("libc.so.6")
+pair = (ctypes.c_long * 2)()
+library.clock_gettime(0, pair)
+second = pair[0]
+library.gettimeofday(pair, None)
+print(second, pair[0], library.time(None))
+"""
+
+
 class RunTest(unittest.TestCase):
     def setUp(self):
         self.folder = pathlib.Path(tempfile.mkdtemp(prefix="tkrun-test."))
@@ -71,6 +83,17 @@ class RunTest(unittest.TestCase):
         shutil.copy(shutil.which("tkcore"), shared / "bin")
         self.folder.chmod(0o755)
         return shared
+
+    def make_root(self, *programs):
+        """Makes a root with these programs and their libraries, and without tkrun's."""
+        for name in programs:
+            path = pathlib.Path(shutil.which(name))
+            listed = call(["ldd", path]).stdout.split()
+            for file in [str(path)] + [word for word in listed if word.startswith("/")]:
+                copy = self.folder / "root" / file.lstrip("/")
+                copy.parent.mkdir(parents=True, exist_ok=True)
+                shutil.copy(file, copy)
+        return self.folder / "root"
 
     def file(self, name, text):
         path = self.folder / name

@@ -1,5 +1,4 @@
-"""Runs side by side and inside of each other, signals, other users, and programs without the
-library."""
+"""Runs side by side and inside of each other, signals, and other users."""
 import os
 import pathlib
 import shutil
@@ -112,21 +111,6 @@ class Around(RunTest):
         run = call(["unshare", "-m", "bash", "-c", command, "bash", TKRUN])
         self.assertIn(run.stdout, ["", "r\n"])
 
-    def test_warnings_of_programs_without_the_library(self):
-        run = self.start("--", "bash", "-c", f"{program('static_waits')} nanosleep; true")
-        self.assertRegex(run.stderr, "tkrun: 'static_waits' .process [0-9]+. reads the host's clocks")
-        run = self.start("--", "env", "-i", "/bin/sleep", "2")
-        self.assertRegex(run.stderr, "tkrun: 'sleep' .process [0-9]+. reads the host's clocks")
-        run = self.start("--", "sleep", "0.5")
-        self.assertNotIn("reads the host's clocks", run.stderr)
-
-    def test_warnings_of_waits_by_the_hosts_time(self):
-        code = ("import socket, struct; s = socket.socket(); "
-                "s.setsockopt(socket.SOL_SOCKET, socket.SO_RCVTIMEO, struct.pack('ll', 1, 0))")
-        run = self.start("--", "/usr/bin/python3", "-c", code)
-        self.assertEqual(run.returncode, 0, run.stderr)
-        self.assertIn("tkrun: SO_RCVTIMEO or SO_SNDTIMEO waits by the host's time", run.stderr)
-
     def setuid(self, name, user):
         """Copies a program, and makes the copy setuid to a user."""
         copied = self.folder / name
@@ -135,12 +119,6 @@ class Around(RunTest):
         copied.chmod(0o4755)
         self.folder.chmod(0o755)
         return copied
-
-    @needs_root("makes a setuid program")
-    def test_a_setuid_program_reads_the_hosts_clocks(self):
-        run = self.start("--", self.setuid("sleep", "nobody"), "2")
-        self.assertEqual(run.returncode, 0)
-        self.assertRegex(run.stderr, "tkrun: 'sleep' .process [0-9]+. (may not be looked at|reads)")
 
     @needs_root("becomes another user")
     def test_a_setuid_program_gives_another_user_no_rights(self):

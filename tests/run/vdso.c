@@ -1,0 +1,101 @@
+/* SPDX-License-Identifier: MIT OR Apache-2.0 */
+/*
+ * Reads each clock past the library: by the functions of the vDSO, which it finds by
+ * AT_SYSINFO_EHDR, and by the system call. Prints what is wrong.
+ *
+ *     vdso [none]    there is a vDSO, or none
+ */
+#define _GNU_SOURCE
+#include "gettimes.h"
+
+#include <elf.h>
+#include <stdint.h>
+#include <stdio.h>
+#include <string.h>
+#include <sys/auxv.h>
+#include <sys/syscall.h>
+#include <sys/time.h>
+#include <time.h>
+#include <unistd.h>
+
+static const char *base;
+
+/* Returns the address of a value of the dynamic section. */
+static const void *find_dynamic(int64_t tag)
+{
+	const Elf64_Ehdr *head = (const Elf64_Ehdr *)base;
+	const Elf64_Phdr *part = (const Elf64_Phdr *)(base + head->e_phoff);
+	const Elf64_Dyn *entry;
+
+	while (part->p_type != PT_DYNAMIC)
+		part++;
+	entry = (const Elf64_Dyn *)(base + part->p_offset);
+	while (entry->d_tag != tag)
+		entry++;
+	return base + entry->d_un.d_ptr;
+}
+
+/* Returns a function of the vDSO, or NULL. */
+static void *find_function(const char *name)
+{
+	const Elf64_Sym *symbols = find_dynamic(DT_SYMTAB);
+	const uint32_t *hash = find_dynamic(DT_HASH);
+	const char *names = find_dynamic(DT_STRTAB);
+
+	for (uint32_t i = 0; i < hash[1]; i++) {
+		if (symbols[i].st_shndx &&
+		    !strcmp(names + symbols[i].st_name, name))
+			return (void *)(base + symbols[i].st_value);
+	}
+	return NULL;
+}
+
+static void check_vdso(void)
+{
+	gettime *read = (gettime *)find_function("__vdso_clock_gettime");
+	gettime *resolve = (gettime *)find_function("__vdso_clock_getres");
+	int (*read_micros)(struct timeval *, void *) =
+		(int (*)(struct timeval *, void *))find_function(
+			"__vdso_gettimeofday");
+	time_t (*read_second)(time_t *) =
+		(time_t (*)(time_t *))find_function("__vdso_time");
+	long (*find_processor)(unsigned int *, unsigned int *, void *) =
+		(long (*)(unsigned int *, unsigned int *, void *))find_function(
+			"__vdso_getcpu");
+	unsigned int processor = UINT32_MAX, node;
+	struct timespec time;
+	struct timeval micros;
+	time_t second;
+
+	check_clocks(read);
+	CHECK(read(77, &time) == -EINVAL);
+	CHECK(!resolve(CLOCK_MONOTONIC, &time) && time.tv_nsec == 1);
+	CHECK(!resolve(CLOCK_MONOTONIC_COARSE, &time) && time.tv_nsec > 1);
+	CHECK(!read_micros(&micros, NULL) && is_after(micros.tv_sec, START));
+	CHECK(read_second(&second) == second && is_after(second, START));
+	CHECK(!find_processor(&processor, &node, NULL) && processor < 65536);
+}
+
+/* Makes the system call where no library sees it. */
+static int gettime_by_call(clockid_t clock, struct timespec *out)
+{
+	long result;
+
+	__asm__ volatile("syscall"
+			 : "=a"(result)
+			 : "a"(SYS_clock_gettime), "D"(clock), "S"(out)
+			 : "rcx", "r11", "memory");
+	return (int)result;
+}
+
+int main(int count, char **words)
+{
+	base = (const char *)getauxval(AT_SYSINFO_EHDR);
+	if (base)
+		check_vdso();
+	else
+		CHECK(count > 1 && !strcmp(words[1], "none"));
+	check_clocks(gettime_by_call);
+	check_clocks(clock_gettime);
+	return faults > 0;
+}
