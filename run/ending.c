@@ -44,13 +44,15 @@ static void kill_all(struct tree *tree)
 	is_over = true;
 }
 
+/* SIGTERM is there in any case, since tkrun itself sends it. */
 static sigset_t end_signals(void)
 {
 	sigset_t ends;
 
 	sigemptyset(&ends);
 	sigaddset(&ends, SIGTERM);
-	sigaddset(&ends, SIGINT);
+	if (!signals_was_ignored(SIGINT))
+		sigaddset(&ends, SIGINT);
 	return ends;
 }
 

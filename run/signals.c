@@ -50,6 +50,15 @@ static bool was_ignored(size_t index)
 	return actions[index].sa_handler == SIG_IGN;
 }
 
+bool signals_was_ignored(int number)
+{
+	for (size_t i = 0; i < CHANGED_COUNT; i++) {
+		if (CHANGED[i] == number)
+			return was_ignored(i);
+	}
+	return false;
+}
+
 /* A blocked signal is pending also if it is ignored. */
 void signals_end_early(void)
 {

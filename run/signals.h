@@ -10,11 +10,16 @@
 #define SIGNALS_H
 
 #include <signal.h>
+#include <stdbool.h>
 #include <sys/types.h>
 
 /* Blocks these signals and SIGCHLD, and lets no limit of a file's size end tkrun.
  * Stores those that it waits for later. */
 void signals_block(sigset_t *waited);
+
+/* Returns whether tkrun was started with a signal ignored, as a shell starts what it leaves in the
+ * background. */
+bool signals_was_ignored(int number);
 
 /* Ends tkrun if a signal came before there was a program to pass it on to. */
 void signals_end_early(void);

@@ -16,8 +16,8 @@ STUBBORN = ("trap '' TERM INT; (while :; do :; done) & (exec sleep 1000) & echo 
 class Ending(RunTest):
     def begin(self, *arguments):
         """Starts tkrun with a program that prints "up" at the end of its lines. Returns these."""
-        run = subprocess.Popen([TKRUN, "--quiet", *map(str, arguments)], stdout=subprocess.PIPE,
-                               stderr=subprocess.PIPE, text=True)
+        run = subprocess.Popen(["env", "--default-signal", TKRUN, "--quiet", *map(str, arguments)],
+                               stdout=subprocess.PIPE, stderr=subprocess.PIPE, text=True)
         lines = []
         while not lines or lines[-1] != "up\n":
             lines.append(run.stdout.readline())
@@ -64,6 +64,17 @@ class Ending(RunTest):
         status = pathlib.Path(f"/proc/{process}/status").read_text()
         bits = int(status.split("ShdPnd:\t")[1].split()[0], 16)
         return {number for number in signal.Signals if bits >> number - 1 & 1}
+
+    def test_a_signal_that_was_ignored(self):
+        run = subprocess.Popen(["env", "--ignore-signal=INT", TKRUN, "--quiet", "--", "bash", "-c",
+                                "echo up; read; exit 5"], stdin=subprocess.PIPE,
+                               stdout=subprocess.PIPE, text=True)
+        self.assertEqual(run.stdout.readline(), "up\n")
+        run.send_signal(signal.SIGINT)
+        time.sleep(1.5)
+        self.assertIsNone(run.poll())
+        run.communicate("\n", timeout=60)
+        self.assertEqual(run.returncode, 5)
 
     def test_a_program_ends_in_its_own_way(self):
         run, _ = self.begin("--", "bash", "-c", "trap 'exit 5' TERM; echo up; sleep 1000 & wait")
