@@ -135,26 +135,21 @@ static void note_program(const struct seccomp_notif *ask,
 		uncovered_note_process((pid_t)ask->pid, reason);
 }
 
-/* Returns whether tkrun traces a thread. One whose last call has failed is still traced. */
-static bool is_traced(int thread)
-{
-	char status[STATUS_BYTES];
-
-	return status_read(thread, status) &&
-	       status_number(status, "TracerPid", 10) == (uint64_t)getpid();
-}
 
 /* Handles a call whose thread can't be traced. A program that loads the library has the clocks by
  * itself, which is looked at later. Returns whether the call may be made. */
 static bool may_execute(const struct seccomp_notif *ask)
 {
+	char status[STATUS_BYTES];
 	struct executed program;
 
-	if (is_traced((int)ask->pid))
+	/* tkrun still traces a thread whose last call has failed */
+	if (!status_read((int)ask->pid, status) ||
+	    status_number(status, "TracerPid", 10) == (uint64_t)getpid())
 		return true;
 	find_executed(ask, &program);
 	if (!lacks_library(ask, &program)) {
-		looks_add((pid_t)ask->pid);
+		looks_add((pid_t)status_number(status, "Tgid", 10));
 		return true;
 	}
 	note_program(ask, &program, "it can't be traced when it is executed");

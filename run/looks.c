@@ -32,11 +32,6 @@ void looks_start(const char *folder)
 	snprintf(page, sizeof(page), "%s/page", strrchr(folder, '/'));
 }
 
-void looks_add(pid_t process)
-{
-	added[added_count++ % ADDED_MOST] = process;
-}
-
 void looks_remove(pid_t process)
 {
 	for (size_t i = 0; i < ADDED_MOST; i++) {
@@ -44,6 +39,15 @@ void looks_remove(pid_t process)
 
 		atomic_compare_exchange_strong(&added[i], &same, 0);
 	}
+}
+
+static bool has_added(void)
+{
+	bool is_found = false;
+
+	for (size_t i = 0; i < ADDED_MOST; i++)
+		is_found |= added[i] != 0;
+	return is_found;
 }
 
 static bool is_added(pid_t process)
@@ -63,6 +67,18 @@ struct program {
 	unsigned int looks;
 	bool is_known; /* it has the clocks, or was named */
 };
+
+static struct program seen[PROGRAMS_MOST];
+
+/* If tkrun may not know where the stack starts, the next program of a process looks like this one. */
+void looks_add(pid_t process)
+{
+	for (size_t i = 0; i < PROGRAMS_MOST; i++) {
+		if (seen[i].process == process)
+			seen[i] = (struct program){ 0 };
+	}
+	added[added_count++ % ADDED_MOST] = process;
+}
 
 /* Returns the number at a place of the file `stat` after the name, where 0 is the state. */
 static uint64_t stat_number(const char *text, int place)
@@ -98,7 +114,6 @@ static bool read_program(int32_t process, struct program *program)
  * wasn't seen yet, or NULL. */
 static struct program *find_program(int32_t process)
 {
-	static struct program seen[PROGRAMS_MOST];
 	static size_t next;
 	struct program now;
 
@@ -186,14 +201,16 @@ static void look_at(int32_t process)
 		return;
 	mapped = read_maps(process);
 	fault = find_fault(program, &mapped);
-	program->is_known = fault || mapped.has_clocks || is_inside(process);
+	/* a process that was added may still run the program before */
+	program->is_known = fault || (!is_added(process) &&
+				      (mapped.has_clocks || is_inside(process)));
 	if (fault && !is_inside(process))
 		uncovered_note_process(process, fault);
 }
 
 void looks_make(struct tree *tree, bool looks_at_all)
 {
-	if ((!looks_at_all && !added_count) || !tree_scan(tree))
+	if ((!looks_at_all && !has_added()) || !tree_scan(tree))
 		return;
 	for (size_t i = 0; i < tree->process_count; i++) {
 		int32_t process = tree->processes[i].process;

@@ -180,6 +180,8 @@ class Unfiltered(RunTest):
     def test_processes_that_have_the_same_number(self):
         # a look may find one before it has loaded the library
         last = "/proc/sys/kernel/ns_last_pid"
+        if not os.access(last, os.W_OK):
+            self.skipTest(f"{last} can't be written")
         code = (f"last=$(cat {last}); end=$((SECONDS + 3)); while ((SECONDS < end)); do "
                 f"echo $last >{last}; date >/dev/null; done; true")
         for run in self.inside("--quiet", "--", "bash", "-c", code):
