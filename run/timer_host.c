@@ -136,11 +136,24 @@ static void set_overruns(const struct timer *timer, uint64_t count)
 	REAL(timer_settime)(timer->posix, TIMER_ABSTIME, &host, NULL);
 }
 
+/* Returns whether another timer has the same signal: then nothing says whose is pending. */
+static bool shares_signal(const struct timer *timer)
+{
+	for (const struct timer *other = timers_all(); other;
+	     other = other->link) {
+		if (other != timer && other->kind == TIMER_POSIX &&
+		    other->signal == timer->signal &&
+		    other->thread == timer->thread)
+			return true;
+	}
+	return false;
+}
+
 /* Lets a timer with a number expire. Its expiries before its signal is delivered are
  * overruns. */
 static void expire_posix(struct timer *timer, uint64_t count)
 {
-	if (is_pending(timer))
+	if (is_pending(timer) && !shares_signal(timer))
 		timer->overruns += count;
 	else
 		timer->overruns = count - 1;

@@ -40,11 +40,14 @@ static int64_t late_nanos(const struct machine *m, const struct tkc_time *now,
  * periods. Returns the number of times that it has reached. */
 static uint64_t skip_reached(struct machine *m, struct timer *timer)
 {
+	struct tkc_snapshot snapshot;
 	struct tkc_time now;
-	uint64_t count = 1;
+	uint64_t count = 1, reading;
 	int64_t late;
 
-	if (machine_read(m, (uint32_t)timer->clock, &now))
+	/* this isn't a read of the program */
+	if (machine_look(m, &snapshot, &reading) ||
+	    tkc_snapshot_get(&now, &snapshot, (uint32_t)timer->clock, reading))
 		return 0;
 	late = late_nanos(m, &now, &timer->next);
 	if (late < 0)

@@ -5,7 +5,8 @@
  *
  *     interrupted [SLACK]
  *
- * A sleep may begin and end SLACK ms late; neither if it isn't given.
+ * A sleep may begin and end SLACK ms late. If it isn't given, sleeps take their spans and
+ * a cycle of 1 ns.
  */
 #define _GNU_SOURCE
 #include "faults.h"
@@ -21,7 +22,8 @@
 #include <time.h>
 #include <unistd.h>
 
-enum { SECOND = 1000000000 };
+/* Each sleep takes a cycle of 1 ns more than its span, and no case has more sleeps. */
+enum { SECOND = 1000000000, CYCLES = 8 };
 
 static int64_t slack; /* ns */
 static int64_t nanos(struct timespec time)
@@ -223,7 +225,7 @@ static void check_thread(void)
 
 int main(int count, char **words)
 {
-	slack = count > 1 ? atoll(words[1]) * 1000000 : 0;
+	slack = count > 1 ? atoll(words[1]) * 1000000 : CYCLES;
 	check_rest(0);
 	check_rest(SA_RESTART);
 	check_absolute();

@@ -29,6 +29,14 @@ static struct {
 	atomic_int ended, early, late;
 } *counts;
 
+/* A wait ends when the clock is past its time, by a cycle of 1 ns. */
+static bool is_late(const struct timespec *now, const struct timespec *due)
+{
+	return (now->tv_sec - due->tv_sec) * INT64_C(1000000000) +
+		       now->tv_nsec - due->tv_nsec >
+	       1;
+}
+
 static struct timespec time_of(int number)
 {
 	return (struct timespec){ BEGIN_SEC, number / GROUP * 1000000L };
@@ -42,8 +50,7 @@ static void note_end(int number)
 	counts->ended++;
 	counts->early += now.tv_sec < due.tv_sec ||
 			 (now.tv_sec == due.tv_sec && now.tv_nsec < due.tv_nsec);
-	counts->late += now.tv_sec > due.tv_sec ||
-			(now.tv_sec == due.tv_sec && now.tv_nsec > due.tv_nsec);
+	counts->late += is_late(&now, &due);
 }
 
 static bool set_timer(int number)

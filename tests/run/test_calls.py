@@ -10,6 +10,7 @@ import unittest
 from runs import (CAN_FILTER, CAN_TRACE, LINUX, STILL, TKRUN, RunTest, call, needs_root, program)
 
 WAIT = 2_000_000_000
+PAST = WAIT + 1  # on a counter of sleeps: a wait ends when the clock is past its time
 WAITS, SYSTEM_WAITS, OTHERS = 44, 20, 8  # the waits of waits.c, system.c and others.c
 
 
@@ -85,7 +86,7 @@ class Calls(RunTest):
         waits = self.waits("--counter", "sleeps", "--", program(name), count=count)
         for wait, value in waits:
             with self.subTest(wait):
-                self.assertEqual(value, str(WAIT))
+                self.assertEqual(value, str(PAST))
 
     def check_at_speed(self, name, count):
         waits = self.waits("--speed", 10, "--", program(name), count=count)
@@ -151,10 +152,10 @@ class Calls(RunTest):
         script = self.file("s", "openhz,64,1000000000,1,0,1000,0\nstep,1000000000,100,0\n")
         output = self.run_on("--script", script, "--counter", "sleeps", "--check", "--",
                              program("steps"))
-        # REALTIME is 1101 after one second; a span of 2 s ends after 2 s
+        # REALTIME is 1101 after one second; a span of 2 s ends after 2 s and a cycle
         self.assertEqual(output.splitlines(), [
-            "absolute_sleep 1.000000000", "absolute_timerfd 1.000000000", "span 2.000000000",
-            "timer_span 2.000000000"])
+            "absolute_sleep 1.000000000", "absolute_timerfd 1.000000000", "span 2.000000001",
+            "timer_span 2.000000001"])
 
     def test_a_step_is_seen_by_waits_on_a_running_counter(self):
         script = self.file("s", "openhz,64,1000000000,1,0,1000,0\nstep,1000000000,100,0\n")

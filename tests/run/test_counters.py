@@ -16,8 +16,9 @@ class Counters(RunTest):
     def test_counters_of_sleeps(self):
         for bits, hz, span in [(8, 1000, 10), (16, 32768, 1000), (64, 1, 100), (32, 10**9, 3600)]:
             with self.subTest(bits=bits, hz=hz):
+                # a sleep ends at the first reading at which the clock is past its time
                 self.assertEqual(self.slept(span, "--counter", "sleeps", "--bits", bits,
-                                            "--hz", hz), span)
+                                            "--hz", hz), round(span + 1 / hz, 6))
 
     def test_counters_that_run(self):
         for span, speed, *options in [(12, 10, "--bits", 32),  # wraps after 4.3 s

@@ -83,7 +83,7 @@ class Programs(RunTest):
                 "for hour in range(24): time.sleep(3600)\n"
                 "print(time.monotonic() - a[0], time.time() - a[1])")
         self.assertEqual(self.run_on("--counter", "sleeps", "--start", 10**9, "--check", "--",
-                                     "/usr/bin/python3", "-c", code), "86400.0 86400.0\n")
+                                     "/usr/bin/python3", "-c", code), "86400.000000024 86400.0\n")
 
     @needs("/usr/bin/python3")
     def test_threads_and_children_wait_for_each_other(self):

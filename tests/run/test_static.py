@@ -181,7 +181,7 @@ class Static(RunTest):
             with self.subTest(name):
                 self.assertEqual(self.run_on("--counter", "sleeps", "--check", "--",
                                              program("static_waits"), name),
-                                 f"{name} 2000000000\n")
+                                 f"{name} 2000000001\n")
 
     def test_a_sleep_until_a_time_ends_by_a_step(self):
         script = self.file("s", "openhz,64,1000000000,1,0,1000,0\nstep,100000000,100,0\n")
@@ -205,7 +205,7 @@ class Static(RunTest):
                    f"{program('static_waits')} sleep")
         run = self.start("--static", "--counter", "sleeps", "--start", 1000000000, "--check", "--",
                          "bash", "-c", command)
-        self.assertEqual(run.stdout, "1000000000\n1000000000\nsleep 2000000000\n", run.stderr)
+        self.assertEqual(run.stdout, "1000000000\n1000000000\nsleep 2000000001\n", run.stderr)
         self.assertEqual(run.returncode, 0)
         self.assertNotIn("reads the host's clocks", run.stderr)
 
@@ -258,7 +258,7 @@ class Static(RunTest):
         static = shutil.copy(program("static_waits"), self.folder)
         run = call([*OTHER, shared / "bin/tkrun", "--quiet", "--counter", "sleeps", "--", static,
                     "sleep"])
-        self.assertEqual((run.returncode, run.stdout), (0, "sleep 2000000000\n"), run.stderr)
+        self.assertEqual((run.returncode, run.stdout), (0, "sleep 2000000001\n"), run.stderr)
 
     def test_programs_that_cannot_be_run(self):
         for name, status in [("/nowhere/program", 127), ("no-such-program", 127),

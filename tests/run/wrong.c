@@ -124,6 +124,7 @@ static void print_others(void)
 {
 	struct itimerspec spec = { { 0, 0 }, { 1, 0 } };
 	struct timespec span = { 0, 1 };
+	struct pollfd *volatile no_files = NULL; /* gcc would warn */
 	struct epoll_event event;
 	timer_t timer;
 
@@ -140,7 +141,7 @@ static void print_others(void)
 	print_error("clock_nanosleep", 12, clock_nanosleep(77, 0, &span, NULL));
 	print("epoll_wait", 0, epoll_wait(-1, &event, 1, 10));
 	print("epoll_wait", 1, epoll_wait(epoll_create1(0), &event, 0, 10));
-	print("poll", 0, poll(NULL, 1 << 30, 10));
+	print("poll", 0, poll(no_files, 1 << 30, 10));
 	print("select", 10, select(-1, NULL, NULL, NULL, NULL));
 	print("pselect", 10, pselect(-1, NULL, NULL, NULL, &span, NULL));
 }
