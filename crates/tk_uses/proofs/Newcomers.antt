@@ -20,7 +20,7 @@ module _ (start : Start) where
       (get_push (all n) (one_of n) i k at)
 
   -- the last but one has seen the clocks as they were opened
-  seen_before : (n : ℕ) (rest : List Known) (one two : Known) →
+  pub seen_before : (n : ℕ) (rest : List Known) (one two : Known) →
       newcomers start.latch start.notice start.journal n ≡ (rest ++ one ∷ []) ++ two ∷ [] →
       one.seen ≡ start.journal
   seen_before n rest one two is =
@@ -28,13 +28,11 @@ module _ (start : Start) where
       (slice_get-push rest one) in
       seen_at n (length rest) one first
 
-  -- a caller sees the clocks as they were opened, if the last but one did so, gave a command, and was
-  -- followed
-  pub opened_as : (n : ℕ) (rest : List Known) (one two first commanded other follower later : Known) →
-      newcomers start.latch start.notice start.journal n ≡ (rest ++ one ∷ []) ++ two ∷ [] →
-      first.seen.opening ≡ one.seen.opening → IsKnownBy first commanded → IsKnownBy commanded other →
-      follower.seen ≡ other.seen → later.seen.opening ≡ follower.seen.opening →
-      later.seen.opening ≡ start.journal.opening
-  opened_as n rest one two first commanded other follower later is asked gave told same after =
-      after ∙ ap (λ (j : Journal). j.opening) same ∙ told.seen.0 ∙ gave.seen.0 ∙ asked
-      ∙ ap (λ (j : Journal). j.opening) (seen_before n rest one two is)
+-- a caller sees the clocks as they were opened, if one that saw them so gave a command and was
+-- followed
+pub opened_as : (one first commanded other follower later : Known) →
+    first.seen.opening ≡ one.seen.opening → IsKnownBy first commanded → IsKnownBy commanded other →
+    follower.seen ≡ other.seen → later.seen.opening ≡ follower.seen.opening →
+    later.seen.opening ≡ one.seen.opening
+opened_as one first commanded other follower later asked gave told same after =
+    after ∙ ap (λ (j : Journal). j.opening) same ∙ told.seen.0 ∙ gave.seen.0 ∙ asked

@@ -78,8 +78,7 @@ fn rises<R: Threads + Wait + Sync>(
 }
 
 /// Opens what was prepared, and returns MONOTONIC before a command and after it, of two threads.
-/// The first one's call is over before the second thread starts. `None` means that the keeper has
-/// other callers too, and one of them gave a command.
+/// `None` means that the keeper has other callers too, and one of them gave a command.
 fn in_turn<L: Named + Send + Sync, C: Counter, S: SharedCounter + Sync, R: Threads + Wait + Sync>(
     rt: &R,
     alloc: Global,
@@ -95,17 +94,32 @@ fn in_turn<L: Named + Send + Sync, C: Counter, S: SharedCounter + Sync, R: Threa
         Ok(opened) => opened,
         Err(fault) => return Err(Stop::Open(fault.error)),
     };
-    let (Some(mut two), Some(one)) = (callers.pop(), callers.pop()) else {
+    let (Some(two), Some(one)) = (callers.pop(), callers.pop()) else {
         return Err(Stop::Open(OpenError::Count));
     };
-    let lent = &keeper;
-    let (first, ()) = thread::join(rt, move || ask(rt, lent, one, counter), || {});
+    both_ask(rt, &keeper, one, two, counter)
+}
+
+/// Lets two threads ask for MONOTONIC, with a command of the first caller between them, and returns
+/// both times. The first one's call is over before the second thread starts.
+fn both_ask<L: Named + Send + Sync, C: Counter, S: SharedCounter + Sync, R: Threads + Wait + Sync>(
+    rt: &R,
+    keeper: &SharedKeeper<L, C>,
+    one: Caller<L>,
+    mut two: Caller<L>,
+    counter: &S,
+) -> Result<Option<(Timespec, Timespec)>, Stop>
+    requires trusted { IsTrusted C.answers_after S.answers counter.now one.seen.opening }
+    ensures { IfOk result (λ times. IfSome times (λ t.
+        HaveRisen S.answers counter.now one.seen.opening t.0 t.1)) }
+{
+    let (first, ()) = thread::join(rt, move || ask(rt, keeper, one, counter), || {});
     let mut first = first?;
     keeper.command(rt, &mut first.caller, Command::Update)?;
     keeper.follow(rt, &mut two, &mut first.caller);
-    let (later, ()) = thread::join(rt, move || ask(rt, lent, two, counter), || {});
+    let (later, ()) = thread::join(rt, move || ask(rt, keeper, two, counter), || {});
     let later = later?;
-    Ok(compared(rt, &keeper, counter, first, later))
+    Ok(compared(rt, keeper, counter, first, later))
 }
 
 /// Asks for MONOTONIC.

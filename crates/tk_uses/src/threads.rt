@@ -83,14 +83,21 @@ fn works<L: Named + Send + Sync, C: Counter, R: Threads + Wait + Sync>(
         Ok(opened) => opened,
         Err(fault) => return Err(Stop::Open(fault.error)),
     };
-    let (Some(mut one), Some(mut two), Some(mut three)) = (
-        callers.pop(),
-        callers.pop(),
-        callers.pop(),
-    ) else {
+    let (Some(one), Some(two), Some(three)) = (callers.pop(), callers.pop(), callers.pop()) else {
         return Err(Stop::Open(OpenError::Count));
     };
-    let keeper = &keeper;
+    all_work(rt, &keeper, machine, one, two, three)
+}
+
+/// Lets the first caller give commands while the other two ask for the time.
+fn all_work<L: Named + Send + Sync, C: Counter, R: Threads + Wait + Sync>(
+    rt: &R,
+    keeper: &SharedKeeper<L, C>,
+    machine: &Machine,
+    mut one: Caller<L>,
+    mut two: Caller<L>,
+    mut three: Caller<L>,
+) -> Result<Work, Stop> {
     let (commands, (fell, also)) = thread::join(
         rt,
         move || steers(rt, keeper, &mut one),

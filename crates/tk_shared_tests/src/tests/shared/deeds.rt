@@ -67,7 +67,7 @@ fn two_callers<L: Named + Send + Sync, R: Threads + Wait + Abort + Sync>(
         Deed::Follow => turns::follows(rt, &mut two),
         Deed::Glance => readers::glances_beside(rt, &mut two),
         Deed::Keeps => folding::keeps(rt, &mut two),
-        Deed::Leap => leaps::both_act(rt, two),
+        Deed::Leap => leaps::both_act(rt, &mut two),
         Deed::Read => turns::reads(rt, two),
         Deed::ReadFast => turns::reads_fast(rt, &mut two),
     }

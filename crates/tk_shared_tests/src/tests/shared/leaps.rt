@@ -40,10 +40,10 @@ fn tai_offset(snapshot: Snapshot) -> u64 {
 fn leaps<L: Named, R: Wait>(
     rt: &R,
     keeper: &SharedKeeper<L, Ticker>,
-    mut caller: Caller<L>,
+    caller: &mut Caller<L>,
 ) -> Result<(), Refusal> {
     for turn in 0..LEAPS {
-        commanded(rt, keeper, &mut caller, leap_of(turn))?;
+        commanded(rt, keeper, caller, leap_of(turn))?;
     }
     Ok(())
 }
@@ -52,12 +52,12 @@ fn leaps<L: Named, R: Wait>(
 fn reads<L: Named, R: Wait>(
     rt: &R,
     keeper: &SharedKeeper<L, Ticker>,
-    mut caller: Caller<L>,
+    caller: &mut Caller<L>,
 ) -> u64 {
     let mut leapt = 0u64;
     for _ in 0..READS {
-        let by_page = tai_offset(read_by(rt, keeper, &mut caller));
-        let by_latch = glanced(keeper, &mut caller).map_or(TAI_OFFSET, tai_offset);
+        let by_page = tai_offset(read_by(rt, keeper, caller));
+        let by_latch = glanced(keeper, caller).map_or(TAI_OFFSET, tai_offset);
         if by_page != TAI_OFFSET || by_latch != TAI_OFFSET {
             leapt = leapt.wrapping_add(1);
         }
@@ -72,16 +72,10 @@ fn no_reader_sees_tai_leap(rt: HostRuntime) -> Result<(), Fail> {
 
 pub(super) fn both_act<L: Named + Send + Sync, R: Threads + Wait + Abort + Sync>(
     rt: &R,
-    two: Two<L>,
+    two: &mut Two<L>,
 ) -> Result<(), Fail> {
-    let Two {
-        alloc: _,
-        keeper,
-        mut one,
-        other,
-    } = two;
-    commanded(rt, &keeper, &mut one, Command::Tai(37))?;
-    let keeper = &keeper;
+    let (keeper, one, other) = (&two.keeper, &mut two.one, &mut two.other);
+    commanded(rt, keeper, one, Command::Tai(37))?;
     let (made, leapt) = join(
         rt,
         move || leaps(rt, keeper, one),

@@ -104,13 +104,24 @@ fn beside<'a, L: Named + Send + Sync, R: Threads + Wait + Abort + Sync>(
     requires two { prepared.callers ≡ 2 }
 {
     let (keeper, mut one, mut two) = open_two::<L, Waits<'a>>(alloc, prepared)?;
-    let (shared, first, second) = (&keeper, &mut one, &mut two);
+    both_act(rt, &keeper, &mut one, &mut two, inside, answered);
+    Ok(())
+}
+
+/// Lets the second caller read while a command of the first one holds the lock.
+fn both_act<L: Named + Send + Sync, C: Counter, R: Threads + Wait + Abort + Sync>(
+    rt: &R,
+    keeper: &SharedKeeper<L, C>,
+    one: &mut Caller<L>,
+    two: &mut Caller<L>,
+    inside: &AtomicU64,
+    answered: &AtomicU64,
+) {
     let ((done, last), (entered, fast, front)) = join(
         rt,
-        move || updates(rt, shared, first),
-        move || reads(rt, shared, second, inside, answered),
+        move || updates(rt, keeper, one),
+        move || reads(rt, keeper, two, inside, answered),
     );
     assert_same(rt, &(entered, done, last), &(true, Ok(1), 1));
     assert_same(rt, &(fast, front), &(Some(0), 0));
-    Ok(())
 }

@@ -52,13 +52,16 @@ struct Seen {
     is_good: bool,
 }
 
+/// A caller that has given its commands, and its results.
+type Acted<L> = (Caller<L>, Result<Seen, AllocError>);
+
 /// Gives all commands, with reads between.
 fn all_commands<L: Named, R: Wait>(
     rt: &R,
     alloc: Global,
     keeper: &SharedKeeper<L, Ticker>,
     mut caller: Caller<L>,
-) -> (Caller<L>, Result<Seen, AllocError>)
+) -> Acted<L>
     ensures { result.0.id ≡ caller.id }
 {
     let mut seen = Seen {
@@ -114,10 +117,7 @@ fn two_callers<L: Named + Send + Sync, R: Threads + Wait + Sync>(
     keeper: &SharedKeeper<L, Ticker>,
     one: Caller<L>,
     two: Caller<L>,
-) -> (
-    (Caller<L>, Result<Seen, AllocError>),
-    (Caller<L>, Result<Seen, AllocError>),
-)
+) -> (Acted<L>, Acted<L>)
     ensures one { result.0.0.id ≡ one.id }
     ensures two { result.1.0.id ≡ two.id }
 {
@@ -132,16 +132,21 @@ fn two_callers<L: Named + Send + Sync, R: Threads + Wait + Sync>(
     )
 }
 
-/// Applies the same journal again, command by command, at the ticker's readings. Checks that every
-/// snapshot that was read is the snapshot at its front.
-fn agrees<R: Abort>(rt: &R, alloc: Global, keeper: &Timekeeper, seen: &Seen) -> Result<(), Fail> {
+/// Applies the same journal again, command by command, at the ticker's readings.
+fn applied_again<R: Abort>(rt: &R, alloc: Global, keeper: &Timekeeper) -> Result<Timekeeper, Fail> {
     let mut again = Timekeeper::open(alloc, nanosecond_counter()?, 0, OPENED_TIME)?;
     for number in 1..=keeper.len() as u64 {
         let entry = keeper.entry(number).ok_or("an entry")?;
         let answer = again.apply(entry.who, entry.reading, entry.cmd);
-        assert_same(rt, &answer, &Ok(number));
-        assert_same(rt, &(entry.reading % STEP), &0);
+        assert_same(rt, &(answer, entry.reading % STEP), &(Ok(number), 0));
     }
+    Ok(again)
+}
+
+/// Checks that every snapshot that was read is the snapshot at its front, and that the clocks of
+/// the journal that was applied again are those of the journal.
+fn agrees<R: Abort>(rt: &R, alloc: Global, keeper: &Timekeeper, seen: &Seen) -> Result<(), Fail> {
+    let again = applied_again(rt, alloc, keeper)?;
     assert_same(rt, &again.snapshot().words(), &keeper.snapshot().words());
     for snapshot in seen.snapshots.iter() {
         let past = again.snapshot_at(snapshot.front()).ok().ok_or("a front")?;
@@ -175,12 +180,25 @@ fn four<L: Named + Send + Sync, R: Threads + Wait + Abort + Sync>(
             ensures { (result.0.0.id ≡ two.id) × (result.1.0.id ≡ three.id) }
         { two_callers(rt, alloc, shared, two, three) },
     );
+    let (callers, saw) = gathered(alloc, first, second)?;
+    let closed = keeper.close(rt, callers).ok().ok_or("closed")?;
+    all_agree(rt, alloc, &closed.keeper, &saw)
+}
+
+/// Returns the callers in a vector, and their results.
+fn gathered<L: Named>(
+    alloc: Global,
+    first: (Acted<L>, Acted<L>),
+    second: (Acted<L>, Acted<L>),
+) -> Result<(Vec<Caller<L>>, [Seen; 4]), Fail>
+    ensures { IfOk result (λ all. all.0.items
+        ≡ first.0.0 ∷ first.1.0 ∷ second.0.0 ∷ second.1.0 ∷ []) }
+{
     let ((zero, zero_saw), (one, one_saw)) = first;
     let ((two, two_saw), (three, three_saw)) = second;
-    let callers = vec![in alloc; zero, one, two, three].ok().ok_or("memory")?;
-    let closed = keeper.close(rt, callers).ok().ok_or("closed")?.keeper;
+    let callers = vec![in alloc; zero, one, two, three]?;
     let saw = [zero_saw?, one_saw?, two_saw?, three_saw?];
-    all_agree(rt, alloc, &closed, &saw)
+    Ok((callers, saw))
 }
 
 /// Checks that all results of the callers were in order, and that the snapshots belong to the

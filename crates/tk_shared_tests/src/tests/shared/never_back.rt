@@ -196,12 +196,23 @@ fn all_play<L: Named + Send + Sync, C: Counter, R: Threads + Wait + Abort + Sync
 {
     let (keeper, mut callers) = opened::<L, C>(alloc, prepared)?;
     let (one, two) = last_two(&mut callers).ok_or("two callers")?;
-    let keeper = &keeper;
+    six_play(rt, &keeper, one, two, callers, board);
+    assert_same(rt, &board.times.faults(), &0);
+    Ok(())
+}
+
+/// Lets two callers and the last four of a list play at once.
+fn six_play<L: Named + Send + Sync, C: Counter, R: Threads + Wait + Sync>(
+    rt: &R,
+    keeper: &SharedKeeper<L, C>,
+    one: Caller<L>,
+    two: Caller<L>,
+    others: Vec<Caller<L>>,
+    board: &Board,
+) {
     let _ = thread::join(
         rt,
         move || two_play(rt, keeper, one, two, board),
-        move || four_play(rt, keeper, callers, board),
+        move || four_play(rt, keeper, others, board),
     );
-    assert_same(rt, &board.times.faults(), &0);
-    Ok(())
 }

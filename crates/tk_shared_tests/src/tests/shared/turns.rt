@@ -82,17 +82,29 @@ fn closed_late<L: Named>(rt: &impl Wait, two: Two<L>) -> Result<Closed<Ticker>, 
         one,
         other,
     } = two;
-    let Err(missing) = keeper.close(rt, alone(alloc, one)?) else {
-        return Err(Fail::from("a caller is missing"));
-    };
     let Missing {
         keeper,
         mut callers,
-    } = missing;
+    } = refused(rt, alloc, keeper, one)?;
     callers.push(other).ok().ok_or("memory")?;
     match keeper.close(rt, callers) {
         Ok(closed) => Ok(closed),
         Err(_) => Err(Fail::from("not closed")),
+    }
+}
+
+/// Closes with only this caller, which is refused.
+fn refused<L: Named>(
+    rt: &impl Wait,
+    alloc: Global,
+    keeper: SharedKeeper<L, Ticker>,
+    one: Caller<L>,
+) -> Result<Missing<L, Ticker>, Fail>
+    ensures { IfOk result (λ missing. missing.callers.items ≡ one ∷ []) }
+{
+    match keeper.close(rt, alone(alloc, one)?) {
+        Ok(_) => Err(Fail::from("a caller is missing")),
+        Err(missing) => Ok(missing),
     }
 }
 

@@ -1,49 +1,20 @@
-use Rattle.std.proofs.Common.{rules, refl, sym, subst}
-use Rattle.std.specs.Prelude.{IfSome}
-use Rattle.tk_clock.specs.Journal.{Opening}
-use Rattle.tk_clock.proofs.Lists.{prefix_self}
-use Rattle.tk_shared.proofs.Informed.{known_by_trans, knows_as_much}
+use Rattle.std.proofs.Common.{rules, ap, sym, subst}
+use Rattle.std.specs.Prelude.{IfOk, IfSome}
+use Rattle.tk_clock.specs.Journal.{Journal, Opening}
 use Rattle.tk_uses.specs.InTurn.{HaveRisen, IsTrusted}
-use Rattle.tk_uses.proofs.Newcomers.{opened_as}
+use Rattle.tk_uses.proofs.Newcomers.{seen_before}
 use Rattle.tk_uses.proofs.in_turn.in_turn.Goals as goal
 
-pub compared-requires-clause-asked : goal.compared-requires-clause-asked
-compared-requires-clause-asked g c κs within =
-    let first = c.in_ok-first.first in
-    let later = c.in_ok-later.later in
-    let told = c.follow.ensures in
-    let gave = c.in_ok-command.ensures.answer in
-    let handed = known_by_trans first.caller c.command.new.caller c.follow.new.other gave.known
-    told.known.1 in
-    record {
-      before = c.in-Some-Some.one;
-      after = first.caller;
-      before' = c.follow.new.caller;
-      after' = later.caller;
-      seen = search rules;
-      seen' = search rules;
-      handed = known_by_trans first.caller c.follow.new.other c.follow.new.caller handed told.follows;
-      known = handed;
-      known' = knows_as_much later.caller later.caller refl refl refl
-          (prefix_self later.caller.noticed.log);
-    }
-
-pub compared-requires-clause-trusted : goal.compared-requires-clause-trusted
-compared-requires-clause-trusted g c κs within =
-    let told = c.follow.ensures in
-    let same = opened_as c.args.prepared c.args.prepared.callers c.pop-2.new.self.items
-    c.in-Some-Some.one c.in-Some-Some.two c.in_ok-first.first.caller c.command.new.caller
-    c.follow.new.other c.follow.new.caller c.in_ok-later.later.caller (search rules) (search rules)
-    c.in_ok-command.ensures.answer.known told.known.1 told.seen (search rules) in
+pub both_ask-requires-clause-trusted : goal.both_ask-requires-clause-trusted
+both_ask-requires-clause-trusted g c κs within =
+    let same = ap (λ (j : Journal). j.opening) (seen_before c.args.prepared c.args.prepared.callers
+    c.pop-2.new.self.items c.in-Some-Some.one c.in-Some-Some.two (search rules)) in
     subst (λ (o : Opening). IsTrusted g.C.Counter.answers_after g.S.SharedCounter.answers
     c.args.counter.now o) (sym same) c.requires.trusted
 
 pub returns : goal.returns
 returns g c =
-    let told = c.follow.ensures in
-    let same = opened_as c.args.prepared c.args.prepared.callers c.pop-2.new.self.items
-    c.in-Some-Some.one c.in-Some-Some.two c.in_ok-first.first.caller c.command.new.caller
-    c.follow.new.other c.follow.new.caller c.in_ok-later.later.caller (search rules) (search rules)
-    c.in_ok-command.ensures.answer.known told.known.1 told.seen (search rules) in
-    subst (λ (o : Opening). IfSome c.compared.result (λ t.
-    HaveRisen g.S.SharedCounter.answers c.args.counter.now o t.0 t.1)) same c.compared.ensures.risen
+    let same = ap (λ (j : Journal). j.opening) (seen_before c.args.prepared c.args.prepared.callers
+    c.pop-2.new.self.items c.in-Some-Some.one c.in-Some-Some.two (search rules)) in
+    subst (λ (o : Opening). IfOk c.both_ask.result (λ times. IfSome times (λ t.
+    HaveRisen g.S.SharedCounter.answers c.args.counter.now o t.0 t.1))) same c.both_ask.ensures
