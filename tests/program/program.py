@@ -2,6 +2,7 @@
 import dataclasses
 import os
 import pathlib
+import socket
 import subprocess
 import tempfile
 import unittest
@@ -33,14 +34,30 @@ def as_bytes(text):
     return text if isinstance(text, bytes) else text.encode()
 
 
-def run(*words, given="", files=None):
-    """Runs the program by these words, over standard input and over files by their names."""
+def writes_to(reader):
+    """The writes to a socket that keeps each as a message, until it is closed."""
+    writes = []
+    while write := reader.recv(65_536):
+        writes.append(write)
+    return writes
+
+
+def run(*words, given="", files=None, seconds=SECONDS):
+    """Runs the program by these words, over standard input and over files by their names. Whatever it
+    writes to standard error must be one write, so that a line there is whole or absent."""
     with tempfile.TemporaryDirectory() as room:
         for name, text in (files or {}).items():
             pathlib.Path(room, name).write_bytes(as_bytes(text))
-        ran = subprocess.run([PROGRAM, *words], cwd=room, input=as_bytes(given),
-                             capture_output=True, timeout=SECONDS, check=False)
-    error = ran.stderr.decode().removeprefix("tkcore: ").removesuffix("\n")
+        reader, errors = socket.socketpair(socket.AF_UNIX, socket.SOCK_SEQPACKET)
+        with reader:
+            with errors:
+                ran = subprocess.run([PROGRAM, *words], cwd=room, input=as_bytes(given),
+                                     stdout=subprocess.PIPE, stderr=errors, timeout=seconds,
+                                     check=False)
+            writes = writes_to(reader)
+    if len(writes) > 1:
+        raise AssertionError(f"standard error was written in parts: {writes}")
+    error = b"".join(writes).decode().removeprefix("tkcore: ").removesuffix("\n")
     return Ending(ran.returncode, error, ran.stdout.decode())
 
 

@@ -1,5 +1,5 @@
 -- How the program ends.
-use Rattle.std.specs.Prelude.{◌≡◌, ℕ, List, ◌++◌, Option, IfSome, Result, Ok, Err, ◌==◌, if◌then◌else◌, codes, decimal}
+use Rattle.std.specs.Prelude.{◌≡◌, ◌<◌, ◌⊎◌, ℕ, List, [], length, ◌++◌, Option, Some, None, IfSome, Result, Ok, Err, ◌==◌, if◌then◌else◌, codes, decimal}
 use Rattle.std.specs.Io.KnownBytes.{Appends}
 use Rattle.tk_script.specs.declared.script_error.ScriptError.{ScriptError}
 use Rattle.tk_script.specs.declared.script_error.ScriptError.TheVariants as scripts
@@ -59,6 +59,23 @@ IsErrorLine contents old new endings.Openings =
     Appends (contents old) (contents new) (codes "tkcore: " ++ codes "openings differ" ++ codes "\n")
 IsErrorLine contents old new (endings.Race error) =
     Appends (contents old) (contents new) (codes "tkcore: " ++ error_text error ++ codes "\n")
+
+-- a call took the whole line, or nothing
+abbrev pub IsWholeOrNone : List ℕ → Option ℕ → Type 0
+IsWholeOrNone line None = Unit {0}
+IsWholeOrNone line (Some count) = count ≡ length line
+
+-- the first call passed the whole line, and if it took the line or nothing, there was no other call
+abbrev pub IsWrittenOnce : {W : Type 0} → (W → List ℕ → Option ℕ → W → Type 0) → W → W → List ℕ →
+    Type 0
+IsWrittenOnce {W = W} write_gives old new line = (first : Option ℕ) × (after : W)
+    × write_gives old line first after × (IsWholeOrNone line first → new ≡ after)
+
+-- the line of error of an ending was written so, or nothing was written
+abbrev pub IsTold : {W : Type 0} → (W → List ℕ → Option ℕ → W → Type 0) → W → W → Ending → Type 0
+IsTold write_gives old new ending = (new ≡ old)
+    ⊎ ((line : List ℕ) × IsErrorLine Some [] line ending × (0 < length line)
+    × IsWrittenOnce write_gives old new line)
 
 -- the ending of an outcome
 abbrev pub ending_of : Result Unit Fault → Ending

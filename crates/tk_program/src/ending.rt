@@ -1,12 +1,17 @@
 ghost use Rattle.std.specs.Prelude.{◌≡◌, OnOk};
-ghost use Rattle.tk_program.specs.Ending.{IsErrorLine, ending_at, ending_of, ending_of_file, ending_of_replay, status_of};
+ghost use Rattle.tk_program.specs.Ending.{IsErrorLine, IsTold, ending_at, ending_of, ending_of_file, ending_of_replay, status_of};
 
+use crate::writing::write_line;
+use arrayvec::ArrayVec;
 use std::io;
 use std::io::Write;
 use tk_command_line::WordsError;
 use tk_race::RaceError;
-use tk_report::{Fault, ManyError};
+use tk_report::{Fault, ManyError, Sink};
 use tk_script::ScriptError;
+
+/// More bytes than any line of error has.
+const LINE_LIMIT: usize = 160;
 
 /// Says how the program ends. Every variant with status 1 or 2, except `Faulty`, prints one line of
 /// error.
@@ -74,10 +79,26 @@ impl Ending {
     /// Writes the line of error to `out`: `tkcore: ` and the text. For `Done`, `Faulty` and
     /// `Differs` it writes nothing.
     ///
+    /// It makes the line first and writes it with one call. Only if `out` takes a part does it write
+    /// the rest with further calls. It doesn't allocate.
+    ///
     /// # Errors
     ///
-    /// Returns the writer's error. A part of the line may have been written.
-    pub fn tell<W: Write>(self, out: &mut W) -> io::Result<()>
+    /// Returns the number of bytes written, if a write failed or took no byte.
+    pub fn tell<W: Sink>(self, out: &mut W) -> Result<(), u64>
+        ensures ok { OnOk result (IsErrorLine W.Write.contents out.old out.new self) }
+        ensures once { IsTold W.Sink.write_gives out.old out.new self }
+    {
+        let mut line = ArrayVec::<u8, LINE_LIMIT>::new();
+        match self.add_line(&mut line) {
+            Ok(()) if line.is_empty() => Ok(()),
+            Ok(()) => write_line(out, line.as_slice()),
+            Err(_) => Err(0),
+        }
+    }
+
+    /// Writes the line of `tell` in parts.
+    fn add_line<W: Write>(self, out: &mut W) -> io::Result<()>
         ensures { OnOk result (IsErrorLine W.Write.contents out.old out.new self) }
     {
         match self {

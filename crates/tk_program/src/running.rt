@@ -2,7 +2,7 @@ ghost use Rattle.std.specs.Prelude.{◌≡◌, ℕ, List, Result, Some, map, str
 ghost use Rattle.std.specs.Process.{exit_status};
 ghost use Rattle.std.specs.declared.io.ErrorKind.{ErrorKind};
 ghost use Rattle.tk_command_line.specs.Request.{IsAllowed, task_of};
-ghost use Rattle.tk_program.specs.Ending.{status_of};
+ghost use Rattle.tk_program.specs.Ending.{IsTold, status_of};
 ghost use Rattle.tk_program.specs.Running.{Ends, IsRun, IsRunBy};
 ghost use Rattle.tk_program.specs.declared.ending.Ending.{Ending};
 
@@ -11,7 +11,6 @@ use crate::ending::Ending;
 use crate::folder::Folder;
 use crate::{many, racing, tracing};
 use std::alloc::Global;
-use std::io::Write;
 use std::process::ExitCode;
 use std::sync::Wait;
 use std::thread::Threads;
@@ -86,14 +85,15 @@ where
     E: AllocGlobal + Arguments + Folder + Threads + Wait + Sync,
     R: Source,
     W: Sink,
-    T: Write,
+    T: Sink,
     ensures { (words : Result (List (List ℕ)) ErrorKind) × (ending : Ending)
         × E.Arguments.args_give rt.now words
         × IsRunBy R.Read.remaining R.Source.read_gives
         W.Write.contents W.Sink.write_gives W.Sink.flush_gives
         E.Folder.open_gives E.File.Read.remaining E.File.Source.read_gives
         rt.now reader.old reader.new writer.old writer.new words ending
-        × (exit_status result ≡ status_of ending) }
+        × (exit_status result ≡ status_of ending)
+        × IsTold T.Sink.write_gives errors.old errors.new ending }
 {
     match words_of(rt) {
         Ok(words) => {
@@ -106,8 +106,9 @@ where
 
 /// Writes the line of error of an ending, and returns its exit code. A line that can't be written
 /// is left out.
-fn exit_code<T: Write>(ending: Ending, errors: &mut T) -> ExitCode
-    ensures { exit_status result ≡ status_of ending }
+fn exit_code<T: Sink>(ending: Ending, errors: &mut T) -> ExitCode
+    ensures status { exit_status result ≡ status_of ending }
+    ensures told { IsTold T.Sink.write_gives errors.old errors.new ending }
 {
     let _ = ending.tell(errors);
     ExitCode::from(ending.status())

@@ -1,7 +1,9 @@
-//! Tests what no clause states: the texts of the endings, the allocations of a text, and a full
-//! writer. The programs of `tests/program` run the built program with arguments, files and scripts.
+//! Tests what no clause states: the texts of the endings, the calls that write a line, the
+//! allocations of a text, and a full writer. The programs of `tests/program` run the built program
+//! with arguments, files and scripts.
 
 mod endings;
+mod lines;
 mod memory;
 mod writers;
 

@@ -125,7 +125,8 @@ IsBegun-start rule start all = record {
 }
 
 -- if every fault of `from` is a fault of `to`, `to` also allows every error that `from` allows
-pub Fails-from : (from to : Rows) (fault : ScriptError) →
+pub Fails-from : {X Y : Type 0} (from : Result X ScriptError) (to : Result Y ScriptError)
+    (fault : ScriptError) →
     ((error : ScriptError) → from ≡ Err error → to ≡ Err error) →
     Fails fault from → Fails fault to
 Fails-from from to errors.Memory step fails = tt
@@ -140,15 +141,8 @@ Fails-from from to (errors.Counter row fault) step fails = step (errors.Counter 
 -- a fault of the rows is the fault of the bytes that contain the opening and the rows
 pub fails-opened : (bytes : List ℕ) (start : Start) (all : Rows) (fault : ScriptError) →
     parse_of bytes ≡ opened_with start all → Fails fault all → Fails fault (parse_of bytes)
-fails-opened bytes start all errors.Memory opens fails = tt
-fails-opened bytes start all errors.TooLarge opens fails = opens ∙ ap (opened_with start) fails
-fails-opened bytes start all errors.Empty opens fails = opens ∙ ap (opened_with start) fails
-fails-opened bytes start all (errors.Opening row) opens fails = opens ∙ ap (opened_with start) fails
-fails-opened bytes start all (errors.Word row) opens fails = opens ∙ ap (opened_with start) fails
-fails-opened bytes start all (errors.Fields row) opens fails = opens ∙ ap (opened_with start) fails
-fails-opened bytes start all (errors.Number row) opens fails = opens ∙ ap (opened_with start) fails
-fails-opened bytes start all (errors.Counter row fault) opens fails =
-    opens ∙ ap (opened_with start) fails
+fails-opened bytes start all fault opens =
+    Fails-from all (parse_of bytes) fault (λ error fails. opens ∙ ap (opened_with start) fails)
 
 -- the report of the rows, or their fault, is the report or the fault of the bytes that contain the
 -- opening and the rows

@@ -6,7 +6,6 @@ use Rattle.tk_script.specs.declared.opening.Start.{Start}
 use Rattle.tk_script.specs.declared.opening.Start.TheVariants.{Opened, Steered, Running, Continued}
 use Rattle.tk_script.specs.declared.row.Row.{Row}
 use Rattle.tk_script.specs.declared.script_error.ScriptError.{ScriptError}
-use Rattle.tk_script.specs.declared.script_error.ScriptError.TheVariants as errors
 use Rattle.tk_script.specs.Coming.{opened_with}
 use Rattle.tk_script.specs.Grammar.{Fails, Gives, Parse, parse_of}
 use Rattle.tk_script.specs.Start.{journal_at}
@@ -15,7 +14,7 @@ use Rattle.tk_report.specs.Report.{Rule, IsPlainReportOfRows, differences_of}
 use Rattle.tk_report.specs.Reports.{IsPlainReportWith, IsReportFrom, IsReportOfRows}
 use Rattle.tk_report.specs.SteeredReport.{IsSteeredJournal, IsSteeredJournalOfRows, IsSteeredReport, IsSteeredReportOfRows, continued_from, steered_from}
 use Rattle.tk_report.specs.Trace.{IsJournalFrom, IsJournalOf, after_all, journal_after}
-use Rattle.tk_report.proofs.Lines.{Rows, fails-opened}
+use Rattle.tk_report.proofs.Lines.{Rows, Fails-from, fails-opened}
 use Rattle.tk_steered.specs.Logged.{SteeredKeeper}
 
 -- no discipline steers the clocks
@@ -124,18 +123,8 @@ err-of_rows journal (Err other) fault known =
 
 fails-of_rows : (journal : Journal) (all : Rows) (fault : ScriptError) →
     Fails fault (journal_after journal all) → Fails fault all
-fails-of_rows journal all errors.Memory fails = tt
-fails-of_rows journal all errors.TooLarge fails = err-of_rows journal all errors.TooLarge fails
-fails-of_rows journal all errors.Empty fails = err-of_rows journal all errors.Empty fails
-fails-of_rows journal all (errors.Opening row) fails =
-    err-of_rows journal all (errors.Opening row) fails
-fails-of_rows journal all (errors.Word row) fails = err-of_rows journal all (errors.Word row) fails
-fails-of_rows journal all (errors.Fields row) fails =
-    err-of_rows journal all (errors.Fields row) fails
-fails-of_rows journal all (errors.Number row) fails =
-    err-of_rows journal all (errors.Number row) fails
-fails-of_rows journal all (errors.Counter row fault) fails =
-    err-of_rows journal all (errors.Counter row fault) fails
+fails-of_rows journal all fault =
+    Fails-from (journal_after journal all) all fault (err-of_rows journal all)
 
 -- the journal of clocks that nothing steers is the journal of the rows
 pub journal-plain : {A : Type 0} (start : Start) (all : Rows) (journal_in : A → Journal)

@@ -4,8 +4,10 @@ use Rattle.std.specs.Prelude.{◌⊎◌, Option, Result, Ok, Err, IsOk, MatchRes
 use Rattle.tk_clock.specs.declared.clock_id.ClockId.{ClockId}
 use Rattle.tk_clock.specs.Journal.{Journal}
 use Rattle.tk_keeper.specs.declared.trace_error.TraceError.{TraceError}
+use Rattle.tk_script.specs.declared.opening.Start.{Start}
 use Rattle.tk_script.specs.declared.script_error.ScriptError.{ScriptError}
 use Rattle.tk_script.specs.declared.script_error.ScriptError.TheVariants as errors
+use Rattle.tk_script.specs.Coming.{opened_with}
 use Rattle.tk_script.specs.Grammar.{Fails, Parse, parse_of}
 use Rattle.tk_script.specs.Stamps.{Items, stamps_of}
 use Rattle.tk_report.specs.declared.fault.Fault.{Fault}
@@ -14,12 +16,25 @@ use Rattle.tk_report.specs.Fault.{fault_of_stamps}
 use Rattle.tk_report.specs.Reading.{IsReadToEnd}
 use Rattle.tk_report.specs.Replay.{IsStopped}
 use Rattle.tk_report.specs.Trace.{AreReadToEnd, IsItemsFault, IsItemsText, IsJournalOf, IsTrace, IsTraceFault}
+use Rattle.tk_report.proofs.Lines.{Rows}
 
 -- a script with a journal has no fault
-parsed : (read : Result Parse ScriptError) (journal : Journal) → IsJournalOf read journal →
-    IsOk read
-parsed (Ok parse) journal known = refl
-parsed (Err error) journal known = absurd known
+pub whole-journal : (read : Result Parse ScriptError) (journal : Journal) →
+    IsJournalOf read journal → IsOk read
+whole-journal (Ok parse) journal known = refl
+whole-journal (Err error) journal known = absurd known
+
+-- the journal of a script is the journal of its opening and its rows
+pub journal-read : (read whole : Result Parse ScriptError) (journal : Journal) → whole ≡ read →
+    IsJournalOf read journal → IsJournalOf whole journal
+journal-read read whole journal same =
+    subst (λ (r : Result Parse ScriptError). IsJournalOf r journal) (sym same)
+
+-- a script whose rows have no fault has none
+pub whole-rows : (read : Result Parse ScriptError) (start : Start) (rows : Rows) →
+    read ≡ opened_with start rows → IsOk rows → IsOk read
+whole-rows read start (Ok rows) opens whole = rw opens refl
+whole-rows read start (Err fault) opens whole = absurd (cc whole)
 
 -- an allocation failed, or the bytes have this fault
 abbrev pub MayFault : ClockId → List ℕ → List ℕ → Fault → Type 0
@@ -27,24 +42,23 @@ MayFault clock script stamps fault =
     (fault ≡ faults.Memory) ⊎ IsTraceFault clock script stamps fault
 
 -- a fault of the stamp file, after a script without a fault
-pub MayFault-stamps : (clock : ClockId) (script stamps : List ℕ) (journal : Journal)
-    (error : ScriptError) → IsJournalOf (parse_of script) journal →
-    Fails error (stamps_of stamps) → MayFault clock script stamps (fault_of_stamps error)
-MayFault-stamps clock script stamps journal errors.Memory known fails = inl refl
-MayFault-stamps clock script stamps journal errors.TooLarge known fails =
-    inr (parsed (parse_of script) journal known, fails, λ e. cc e)
-MayFault-stamps clock script stamps journal errors.Empty known fails =
-    inr (parsed (parse_of script) journal known, fails, λ e. cc e)
-MayFault-stamps clock script stamps journal (errors.Opening row) known fails =
-    inr (parsed (parse_of script) journal known, fails, λ e. cc e)
-MayFault-stamps clock script stamps journal (errors.Word row) known fails =
-    inr (parsed (parse_of script) journal known, fails, λ e. cc e)
-MayFault-stamps clock script stamps journal (errors.Fields row) known fails =
-    inr (parsed (parse_of script) journal known, fails, λ e. cc e)
-MayFault-stamps clock script stamps journal (errors.Number row) known fails =
-    inr (parsed (parse_of script) journal known, fails, λ e. cc e)
-MayFault-stamps clock script stamps journal (errors.Counter row fault) known fails =
-    inr (parsed (parse_of script) journal known, fails, λ e. cc e)
+pub MayFault-stamps : (clock : ClockId) (script stamps : List ℕ) (error : ScriptError) →
+    IsOk (parse_of script) → Fails error (stamps_of stamps) → MayFault clock script stamps (fault_of_stamps error)
+MayFault-stamps clock script stamps errors.Memory whole fails = inl refl
+MayFault-stamps clock script stamps errors.TooLarge whole fails =
+    inr (whole, fails, λ e. cc e)
+MayFault-stamps clock script stamps errors.Empty whole fails =
+    inr (whole, fails, λ e. cc e)
+MayFault-stamps clock script stamps (errors.Opening row) whole fails =
+    inr (whole, fails, λ e. cc e)
+MayFault-stamps clock script stamps (errors.Word row) whole fails =
+    inr (whole, fails, λ e. cc e)
+MayFault-stamps clock script stamps (errors.Fields row) whole fails =
+    inr (whole, fails, λ e. cc e)
+MayFault-stamps clock script stamps (errors.Number row) whole fails =
+    inr (whole, fails, λ e. cc e)
+MayFault-stamps clock script stamps (errors.Counter row fault) whole fails =
+    inr (whole, fails, λ e. cc e)
 
 -- the result for the items is the result for the bytes that contain them
 pub trace-converted : {A : Type 0} (clock : ClockId) (script stamps : List ℕ) (journal : Journal)

@@ -8,14 +8,14 @@ ghost use Rattle.tk_script.specs.Grammar.{Fails};
 ghost use Rattle.tk_script.specs.Stamps as spec;
 
 use crate::fault::Fault;
-use crate::journaling::keeper_of;
+use crate::journaling::keeper_after;
 use itoa::Buffer;
 use std::alloc::{AllocError, Allocator, Global};
 use std::thread::Threads;
 use tk_clock::ClockId;
 use tk_keeper::Timekeeper;
 use tk_pieces::trace_all;
-use tk_script::Stamps;
+use tk_script::{RowReader, Stamps};
 
 /// Makes the trace from the bytes of a script and of a stamp file: one line for each stamp.
 /// Otherwise it returns the first fault of the script, then of the stamp file, then of its items.
@@ -31,7 +31,14 @@ pub(crate) fn trace_of<E: Threads + Sync>(
         (λ text. IsTrace clock script.now stamps.now text.items)
         (λ fault. (fault ≡ Fault.Memory) ⊎ IsTraceFault clock script.now stamps.now fault) }
 {
-    let keeper = keeper_of(alloc, script)?;
+    let (start, mut rows) = RowReader::open(alloc, script)?;
+    if start.is_steered() {
+        // no row has a fault, and it can take minutes to carry them out
+        let parsed = items_of(alloc, stamps)?;
+        let steered = keeper_after(alloc, start, &mut rows)?;
+        return convert(alloc, rt, &steered, &parsed, clock);
+    }
+    let keeper = keeper_after(alloc, start, &mut rows)?;
     let items = items_of(alloc, stamps)?;
     convert(alloc, rt, &keeper, &items, clock)
 }

@@ -1,5 +1,5 @@
 -- The rows that a row reader has not read yet, from one record to the next.
-use Rattle.std.proofs.Common.{◌≡◌, ◌∙◌, ◌≤◌, ◌+◌, ℕ, zero, suc, List, [], ◌∷◌, length, Option, Some, None, IsSome, Bool, true, false, Result, Ok, Err, refl, sym, ap, arith, cond, ◌++◌, append_assoc}
+use Rattle.std.proofs.Common.{◌≡◌, ◌∙◌, ◌≤◌, ◌+◌, ℕ, zero, suc, List, [], ◌∷◌, length, Option, Some, None, IsSome, Bool, true, false, Result, Ok, Err, IsOk, refl, sym, ap, arith, cond, ◌++◌, append_assoc}
 use Rattle.csv.specs.Machine.{Read, next_record}
 use Rattle.csv.specs.Reading.{default_config, is_bom, records_from, records_next, strip_bom}
 use Rattle.csv.specs.declared.parser.Config.{Config}
@@ -7,7 +7,7 @@ use Rattle.csv.specs.declared.parser.State.{State}
 use Rattle.csv.specs.declared.parser.State.TheVariants.{StartRecord}
 use Rattle.tk_script.specs.Coming.{IsReady, coming, opened_with, records_left, row_and}
 use Rattle.tk_script.specs.Field.{◌>>=◌}
-use Rattle.tk_script.specs.Grammar.{Fails, Parse, parse_records}
+use Rattle.tk_script.specs.Grammar.{Parse, parse_records}
 use Rattle.tk_script.specs.Opening.{start_of}
 use Rattle.tk_script.specs.Cursor.{IsCursor, left_in}
 use Rattle.tk_script.specs.Records.{each, records_of, most_bytes}
@@ -16,7 +16,6 @@ use Rattle.tk_script.specs.declared.opening.Start.{Start}
 use Rattle.tk_script.specs.declared.row.Row.{Row}
 use Rattle.tk_script.specs.declared.row_reader.RowReader.{RowReader}
 use Rattle.tk_script.specs.declared.script_error.ScriptError.{ScriptError}
-use Rattle.tk_script.specs.declared.script_error.ScriptError.TheVariants as errors
 
 -- rows, followed by the rows of a later reading, or the fault of that reading
 abbrev pub rows_and : List Row → Result (List Row) ScriptError → Result (List Row) ScriptError
@@ -166,17 +165,8 @@ opened-row whole start before before' row old new given step e = given ∙ rw (s
         (sym (append_assoc before (row ∷ []) rows))
     by (Err fault) = refl
 
--- a fault of the remaining rows is the fault of the whole script
-pub opened-fault : (whole : Result Parse ScriptError) (start : Start) (before : List Row)
-    (reader : RowReader) (fault : ScriptError)
-    → whole ≡ opened_with start (rows_and before (coming reader)) → Fails fault (coming reader) →
-    Fails fault whole
-opened-fault whole start before reader errors.Memory given fails = tt
-opened-fault whole start before reader errors.TooLarge given fails = given ∙ rw fails refl
-opened-fault whole start before reader errors.Empty given fails = given ∙ rw fails refl
-opened-fault whole start before reader (errors.Opening row) given fails = given ∙ rw fails refl
-opened-fault whole start before reader (errors.Word row) given fails = given ∙ rw fails refl
-opened-fault whole start before reader (errors.Fields row) given fails = given ∙ rw fails refl
-opened-fault whole start before reader (errors.Number row) given fails = given ∙ rw fails refl
-opened-fault whole start before reader (errors.Counter row fault) given fails =
-    given ∙ rw fails refl
+-- a reading of rows goes on as a later reading: it has the fault of the later one, and none if that
+-- has none
+pub record Continues (all later : Result (List Row) ScriptError) : Type 0 where
+  pub whole : IsOk later → IsOk all
+  pub fault : (error : ScriptError) → later ≡ Err error → all ≡ Err error

@@ -1,5 +1,5 @@
 -- The clocks with which a script begins.
-use Rattle.std.specs.Prelude.{◌≡◌, ℕ, ◌^◌, ◌≤◌, [], None}
+use Rattle.std.specs.Prelude.{◌≡◌, ℕ, ◌^◌, ◌≤◌, [], None, Bool, true, false}
 use Rattle.tk_clock.specs.Folding.{journal_from}
 use Rattle.tk_clock.specs.Journal.{Journal, opened}
 use Rattle.tk_clock.specs.Refusal.{opening_refusal}
@@ -11,6 +11,13 @@ use Rattle.tk_script.specs.declared.opening.Start.TheVariants.{Opened, Steered, 
 -- commands can be counted too
 abbrev pub most_front : ℕ
 most_front = 2 ^ 62
+
+-- whether a discipline steers the clocks
+abbrev pub is_steered : Start → Bool
+is_steered (Opened opening) = false
+is_steered (Steered opening hz) = true
+is_steered (Running clock front) = false
+is_steered (Continued clock front) = true
 
 -- clocks can begin in this way
 abbrev pub IsOpenable : Start → Type 0

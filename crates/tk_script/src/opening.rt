@@ -1,7 +1,7 @@
 ghost use Rattle.std.specs.Prelude.{◌≡◌, IfOk};
 ghost use Rattle.tk_script.specs.Counters as counters;
 ghost use Rattle.tk_script.specs.Cursor.{fields_of};
-ghost use Rattle.tk_script.specs.Start.{IsOpenable};
+ghost use Rattle.tk_script.specs.Start.{IsOpenable, is_steered};
 ghost use Rattle.tk_script.specs.Opening as spec;
 
 use crate::fields::{field, has_word, number_at, number32_at, time_at};
@@ -39,6 +39,15 @@ pub enum Start {
     /// Continues running clocks that a discipline steers, and the discipline (`openwords` with its
     /// numbers).
     Continued { clock: SteeredClock, front: u64 },
+}
+
+impl Start {
+    /// Returns whether a discipline steers the clocks.
+    pub fn is_steered(&self) -> bool
+        ensures { result ≡ is_steered self.now }
+    {
+        matches!(self, Start::Steered { .. } | Start::Continued { .. })
+    }
 }
 
 /// Names the two numbers that describe the counter, after its bits.

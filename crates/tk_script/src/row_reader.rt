@@ -1,7 +1,7 @@
-ghost use Rattle.std.specs.Prelude.{◌≡◌, IfOk, MatchResult};
+ghost use Rattle.std.specs.Prelude.{◌≡◌, IfOk, IsOk, IsTrue, MatchResult};
 ghost use Rattle.tk_script.specs.Grammar.{Fails, parse_of};
 ghost use Rattle.tk_script.specs.Coming.{IsReady, Steps, coming, opened_with};
-ghost use Rattle.tk_script.specs.Start.{IsOpenable};
+ghost use Rattle.tk_script.specs.Start.{IsOpenable, is_steered};
 
 use crate::opening::{Start, read_start};
 use crate::records::{Records, SIZE_LIMIT};
@@ -20,7 +20,9 @@ pub struct RowReader<'a> {
 impl<'a> RowReader<'a> {
     /// Parses the first record of a script, and returns it with a reader of the rows.
     ///
-    /// Clocks can begin as it says.
+    /// Clocks can begin as it says. If a discipline steers them, the rows are parsed to the last one
+    /// first, and then once more as they are read: a record of steered clocks can take minutes, so
+    /// no record is carried out before a fault in a later one is found.
     ///
     /// # Errors
     ///
@@ -28,12 +30,32 @@ impl<'a> RowReader<'a> {
     /// - `TooLarge`: there are more than 16,777,216 bytes
     /// - `Empty`: there is no record
     /// - `Opening`, `Fields`, `Number`: the first record has a fault
+    /// - the first fault of the rows, if a discipline steers the clocks
     pub fn open(alloc: Global, bytes: &'a [u8]) -> Result<(Start, RowReader<'a>), ScriptError>
         ensures gives { MatchResult result
             (λ opened. IsReady opened.1
             × (parse_of bytes.now ≡ opened_with opened.0 (coming opened.1)))
             (λ error. Fails error (parse_of bytes.now)) }
         // clocks can begin in this way
+        ensures opens { IfOk result (λ opened. IsOpenable opened.0) }
+        // no row of steered clocks has a fault
+        ensures whole { IfOk result (λ opened.
+            IsTrue (is_steered opened.0) → IsOk (coming opened.1)) }
+    {
+        let (start, mut rows) = RowReader::begin(alloc, bytes)?;
+        if !start.is_steered() {
+            return Ok((start, rows));
+        }
+        rows.parse_rest()?;
+        RowReader::begin(alloc, bytes)
+    }
+
+    /// Parses the first record of a script, and returns it with a reader of the rows.
+    fn begin(alloc: Global, bytes: &'a [u8]) -> Result<(Start, RowReader<'a>), ScriptError>
+        ensures gives { MatchResult result
+            (λ opened. IsReady opened.1
+            × (parse_of bytes.now ≡ opened_with opened.0 (coming opened.1)))
+            (λ error. Fails error (parse_of bytes.now)) }
         ensures opens { IfOk result (λ opened. IsOpenable opened.0) }
     {
         if bytes.len() > SIZE_LIMIT {
@@ -45,6 +67,17 @@ impl<'a> RowReader<'a> {
         }
         let start = read_start(&records)?;
         Ok((start, RowReader { records, row: 2 }))
+    }
+
+    /// Parses the remaining rows, and keeps none.
+    fn parse_rest(&mut self) -> Result<(), ScriptError>
+        requires { IsReady self.old }
+        ensures { MatchResult result
+            (λ _. IsOk (coming self.old))
+            (λ error. Fails error (coming self.old)) }
+    {
+        'rows: while let Some(_row) = self.next_row()? {}
+        Ok(())
     }
 
     /// Parses the next record and returns its row. `None` means that no record remains.

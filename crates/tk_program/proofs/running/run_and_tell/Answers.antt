@@ -9,7 +9,8 @@ returns-in-Ok g c = (
   c.run-ending.result,
   rw c.as_slice.ensures.value c.in-Ok.ensures.ok,
   c.run-ending.ensures,
-  c.exit_code.ensures,
+  c.exit_code.ensures.status,
+  c.exit_code.ensures.told,
 )
 
 pub returns-in-Err : goal.returns-in-Err
@@ -19,13 +20,15 @@ returns-in-Err g c = elim c.in-Err.ensures.err [
     c.from.result,
     unread.1,
     (c.from.ensures ∙ ap ending_at unread.2, (refl, refl)),
-    c.exit_code-in-Err.ensures,
+    c.exit_code-in-Err.ensures.status,
+    c.exit_code-in-Err.ensures.told,
   )
   | inr lost ↦ (
     Ok lost.0,
     c.from.result,
     lost.1,
     inl (c.from.ensures ∙ ap ending_at lost.2, (refl, refl)),
-    c.exit_code-in-Err.ensures,
+    c.exit_code-in-Err.ensures.status,
+    c.exit_code-in-Err.ensures.told,
   )
 ]

@@ -6,7 +6,7 @@ use Rattle.tk_script.specs.Records.{records_of}
 use Rattle.tk_script.specs.declared.row_reader.RowReader.{RowReader}
 use Rattle.tk_script.proofs.ComingLemmas.{parse-open, ready-open}
 use Rattle.tk_script.proofs.GrammarLemmas.{parse-large, parse-small, parse-none, parse-start_fault, fails-from}
-use Rattle.tk_script.proofs.row_reader.RowReader.open.Goals as goal
+use Rattle.tk_script.proofs.row_reader.RowReader.begin.Goals as goal
 
 pub returns-then-bytes-gt-SIZE_LIMIT-clause-gives : goal.returns-then-bytes-gt-SIZE_LIMIT-clause-gives
 returns-then-bytes-gt-SIZE_LIMIT-clause-gives c =
