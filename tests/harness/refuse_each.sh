@@ -111,7 +111,8 @@ done
 
 printf '%s\n' open,32,16777216,24,0,1700000000,0 tai,0,37 freq,0,65536000 get,9,tai update,9 >4.csv
 seq 0 99 | sed 's/.*/1,&\n3,&/' >short
-seq 0 199999 | sed 's/.*/2,&/' >long
+# so many stamps that threads convert them
+seq 0 999999 | sed 's/.*/2,&/' >long
 each_request "$memory" /dev/null trace tai 4.csv short
 each_request "$memory" /dev/null trace realtime 3.csv short
 each_request "$memory" steered.csv replay
@@ -122,6 +123,10 @@ each_request "$memory" /dev/null trace tai quoted.csv quoted
 each_request "$memory" /dev/null trace tai 4.csv long
 # no fault is allowed: where no thread starts, one thread converts it all
 each REFUSE_THREADS 'no such fault' /dev/null trace tai 4.csv long
+if [ $threads = 0 ] && [ "$(nproc)" -gt 1 ]; then
+    echo "the trace of $(wc -l <long) stamps started no thread"
+    exit 1
+fi
 
 # each order is accepted or refused whatever the actors' order is
 printf '%s\n' open,32,16777216,24,0,1700000000,0 update,0 get,0,tai tai,0,100001 resume,0,0,0 freq,0,5 >5.csv
