@@ -1,6 +1,7 @@
 /* SPDX-License-Identifier: MIT OR Apache-2.0 */
 #define _GNU_SOURCE
 #include "timers.h"
+#include "wake.h"
 
 #include <dlfcn.h>
 #include <stdlib.h>
@@ -39,6 +40,7 @@ __attribute__((noinline, cold)) static void find_machine(void)
 		atomic_fetch_add(&own.control->attached, 1);
 	waiters_forget(&own, getpid()); /* the thread that has just begun */
 	timers_hook_forks();
+	wake_start();
 	atomic_store(&state, 2);
 	timers_resume(&own);
 }
