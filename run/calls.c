@@ -2,6 +2,7 @@
 #define _GNU_SOURCE
 #include "image.h"
 #include "timers.h"
+#include "wake.h"
 
 #include <dlfcn.h>
 #include <stdlib.h>
@@ -79,6 +80,7 @@ __attribute__((noinline, cold)) static void find_machine(void)
 	count_program(vdso);
 	waiters_forget(&own, getpid()); /* the thread that has just begun */
 	timers_hook_forks();
+	wake_start();
 	atomic_store(&state, 2);
 	timers_resume(&own);
 }

@@ -64,12 +64,23 @@ static bool is_passed(uint32_t index, uint64_t owner)
 	return idles[index].is_passed && idles[index].owner == owner;
 }
 
+/* Wakes a waiter. Its thread may have executed a program that the signal would end. */
+static void wake(const struct run *run, struct waiter *waiter, uint64_t owner)
+{
+	const struct thread_state *state =
+		find_thread(&run->tree, owner_thread(owner));
+
+	if (!waiter_has_signal(waiter, owner) || (state && state->has_wake))
+		waiter_wake(waiter, owner);
+}
+
 /* Wakes a waiter whose time has come, if it waits and hasn't been woken lately. */
-static void wake_again(struct waiter *waiter, struct idle *idle, uint64_t now)
+static void wake_again(const struct run *run, struct waiter *waiter,
+		       struct idle *idle, uint64_t now)
 {
 	if (now < idle->next)
 		return;
-	waiter_wake(waiter, idle->owner);
+	wake(run, waiter, idle->owner);
 	idle->next = now + idle->gap;
 	idle->gap *= AGAIN_TIMES;
 }
@@ -86,7 +97,7 @@ static bool pass_over(const struct run *run, uint32_t index, uint64_t owner)
 
 	if (!state || !state->is_waiting || sleepers_have(waiter, owner))
 		return false;
-	wake_again(waiter, idle, now);
+	wake_again(run, waiter, idle, now);
 	if (!idle->looks || state->switches != idle->switches) {
 		idle->switches = state->switches;
 		idle->since = now;
@@ -180,7 +191,7 @@ static void wake_reached(struct run *run)
 
 		if (owner_thread(owner) > 0 &&
 		    !waiter_left(run, waiter, owner) && !is_passed(i, owner))
-			waiter_wake(waiter, owner);
+			wake(run, waiter, owner);
 	}
 }
 
@@ -198,7 +209,7 @@ static bool wake_late(struct run *run, uint32_t index, uint64_t owner)
 		waiter_free(waiter, owner);
 		return false;
 	}
-	wake_again(waiter, idle, now);
+	wake_again(run, waiter, idle, now);
 	return true;
 }
 

@@ -86,6 +86,8 @@ static bool add_thread(struct tree *tree, const char *folder, int32_t thread)
 			status_number(status, "nonvoluntary_ctxt_switches", 10),
 		.is_waiting = state && strchr("STtZXD", state) &&
 			      !is_followed(state, status),
+		.has_wake = status_number(status, "SigCgt", 16) >>
+				    (WAKE_SIGNAL - 1) & 1,
 		.call = -1,
 	};
 	if (added->is_waiting)

@@ -11,6 +11,7 @@ struct thread_state {
 	int32_t thread;
 	uint64_t switches;
 	bool is_waiting; /* for anything: it isn't running or about to */
+	bool has_wake;	 /* its process handles WAKE_SIGNAL */
 	long call;	 /* the system call in which it waits, or -1 */
 };
 

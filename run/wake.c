@@ -82,7 +82,7 @@ static bool is_near(uintptr_t stack, uintptr_t place)
 	return stack - (place - STACK_BYTES) < 2 * STACK_BYTES;
 }
 
-static void on_wake(int number, siginfo_t *info, void *context)
+void wake_handle(int number, siginfo_t *info, void *context)
 {
 	greg_t *registers = ((ucontext_t *)context)->uc_mcontext.gregs;
 	unsigned int i = waits_count;
@@ -96,24 +96,6 @@ static void on_wake(int number, siginfo_t *info, void *context)
 	else if (i == waits_count && is_near((uintptr_t)registers[REG_RSP],
 					     waits[i - 1].place))
 		end_call(registers, waits[i - 1].result);
-}
-
-/* Returns whether the signal has this handler. If it is ignored, or would end the
- * process, it gets the handler. A system call that isn't a wait is restarted. */
-static bool has_handler(void)
-{
-	struct sigaction action = { .sa_sigaction = on_wake,
-				    .sa_flags = SA_SIGINFO | SA_RESTART };
-	struct sigaction now;
-
-	if (sigaction(WAKE_SIGNAL, NULL, &now))
-		return false;
-	if (now.sa_flags & SA_SIGINFO)
-		return now.sa_sigaction == on_wake;
-	if (now.sa_handler != SIG_DFL && now.sa_handler != SIG_IGN)
-		return false;
-	sigfillset(&action.sa_mask);
-	return !sigaction(WAKE_SIGNAL, &action, NULL);
 }
 
 bool wake_is_possible(const struct machine *m)
@@ -151,7 +133,7 @@ bool wake_begin(const struct machine *m, const struct ticket *ticket,
 
 	forget_left(place);
 	if (!ticket->waiter || waits_count == WAITS_MOST ||
-	    !wake_is_possible(m) || !has_handler())
+	    !wake_is_possible(m) || wake_is_taken())
 		return false;
 	waits[waits_count].ticket = *ticket;
 	waits[waits_count].result = result;

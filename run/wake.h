@@ -5,6 +5,13 @@
 
 #include "calls.h"
 
+/* Lets this process handle the signal. */
+void wake_start(void);
+void wake_handle(int number, siginfo_t *info, void *context);
+
+/* Returns whether the program has a handler for the signal. */
+bool wake_is_taken(void);
+
 /* Returns whether tkrun may send this process the signal. */
 bool wake_is_possible(const struct machine *m);
 

@@ -1,10 +1,9 @@
 """Each wait and timer that tkrun answers, compared with the same program on the host's clocks. On a
 counter of sleeps a wait takes its span and one cycle, which is 1 ns here."""
 import re
-import subprocess
 import unittest
 
-from runs import STILL, RunTest, call, needs, needs_root, program
+from runs import CAN_FILTER, STILL, RunTest, call, needs, needs_root, program
 
 NANOS = 10**9
 MILLI = 10**6
@@ -206,6 +205,16 @@ class Signals(RunTest):
                 self.assertEqual(self.run_on(*options, "--", program("alarms"), "own"),
                                  "lost 0, wrong 0\n")
 
+    def test_waits_that_are_left(self):
+        # after 2 s of each, the next wait takes 100 s
+        for how in ("jump", "cancel", "fork", "reset"):
+            with self.subTest(how):
+                self.assertEqual(self.run_on(*STILL, "--", program("wakes"), how), "102\n")
 
-if __name__ == "__main__":
-    unittest.main()
+    @unittest.skipUnless(CAN_FILTER, "the kernel lets no filter ask tkrun")
+    def test_a_static_program_that_is_executed_in_a_wait(self):
+        # the signal of the wait that was left would end it
+        code = (f"sleep 30 & {program('wakes')} exec {program('static_waits')} poll >&2; "
+                "echo $?; wait")
+        run = self.start("--quiet", "--static", *STILL, "--", "bash", "-c", code)
+        self.assertEqual((run.returncode, run.stdout), (0, "0\n"), run.stderr)
