@@ -72,10 +72,11 @@ class Seconds(RunTest):
                                  str(MIDNIGHT - 3), "--", "bash", "-c", code], stdout=subprocess.PIPE, text=True)
 
     def test_reads_while_a_second_begins(self):
-        for what in ["insert", "delete"]:
-            with self.subTest(what):
-                self.assertEqual(self.run_on("--every", 20, "--check", "--record", self.folder / "r",
-                                             "--", program(self.PROGRAMS[1]), what), "")
+        # without a record, a static program reads by the image
+        for options in [[], ["--every", 20, "--check", "--record", self.folder / "r"]]:
+            for what in ["insert", "delete"]:
+                with self.subTest(what, options=options):
+                    self.assertEqual(self.run_on(*options, "--", program(self.PROGRAMS[1]), what), "")
 
     def test_reads_while_the_rate_changes(self):
         self.assertEqual(self.run_on("--every", 3, "--check", "--record", self.folder / "r", "--",
@@ -86,10 +87,13 @@ class Seconds(RunTest):
              "ntp_adjtime modes=0x2100 sec=100 sub=5", "clock_adjtime 0 modes=0x100 sec=100 sub=5",
              "sys_clock_adjtime 0 modes=0x100 sec=100 sub=5"]
 
+    # these move only TAI
+    TAI_STEPS = ["adjtimex modes=0x80 constant=100", "sys_clock_adjtime 0 modes=0x80 constant=100"]
+
     def test_each_step_ends_the_sleeps_that_it_passes(self):
         # on a counter that runs: all commands at once, each on separate clocks
-        for clock in 0, 11:
-            runs = [(step, self.start_stepped(step, clock)) for step in self.STEPS]
+        for clock, steps in [(0, self.STEPS), (11, self.STEPS + self.TAI_STEPS)]:
+            runs = [(step, self.start_stepped(step, clock)) for step in steps]
             for step, run in runs:
                 with self.subTest(step=step, clock=clock):
                     answers = run.communicate(timeout=100)[0].split("\n")
