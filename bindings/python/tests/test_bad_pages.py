@@ -38,6 +38,27 @@ class Pages(unittest.TestCase):
         with self.assertRaises(tkcore.BadBuffer):
             tkcore.Page.create(clock, bytes(512))
 
+    def test_each_size(self):
+        """Memory that is a byte or a word too short is refused, and stays as it was."""
+        clock = opened()
+        makes = {tkcore.Page: lambda memory: tkcore.Page.create(clock, memory),
+                 tkcore.Latch: lambda memory: tkcore.Latch.create(clock.snapshot(), memory)}
+        self.assertEqual((tkcore.Page.SIZE, tkcore.Latch.SIZE), (256, 224))
+        for kind, make in makes.items():
+            memory = mmap.mmap(-1, 512)
+            for size in (*range(0, kind.SIZE, 8), kind.SIZE - 1, kind.SIZE - 7):
+                with self.assertRaises(tkcore.BadBuffer) as raised:
+                    make(memoryview(memory)[:size])
+                self.assertEqual(raised.exception.value, size)
+                self.assertEqual(memory[:], bytes(512))
+            make(memory)
+            for size in (0, 8, kind.SIZE - 8, kind.SIZE - 1):
+                with self.assertRaises(tkcore.BadBuffer) as raised:
+                    kind.attach(memoryview(memory)[:size])
+                self.assertEqual(raised.exception.value, size)
+            for size in (kind.SIZE, kind.SIZE + 1):
+                self.assertEqual(kind.attach(memoryview(memory)[:size]).read(), clock.snapshot())
+
     def test_another_layout(self):
         memory = mmap.mmap(-1, 512)
         page, latch = PAGE_LAYOUT, LATCH_LAYOUT

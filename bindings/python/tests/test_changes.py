@@ -22,16 +22,19 @@ class Changes(unittest.TestCase):
 
     def apply(self, clock, file, table):
         for reading, word, number, nsec, code in rows(file, table):
+            before = clock.save()
             raises(self, code, lambda: clock.apply(reading, command(word), number, nsec))
+            if code != "OK":
+                self.assertEqual(clock.save(), before)
 
     def change(self, clock, file, table):
         for reading, name, first, code in rows(file, table):
-            before, counter = clock.words(), self.counters[name]
+            before, counter = (clock.counter, clock.save()), self.counters[name]
             raises(self, code, lambda: clock.change_counter(reading, counter, first))
             if code == "OK":
                 self.assertEqual(clock.counter, counter)
             else:
-                self.assertEqual(clock.words(), before)
+                self.assertEqual((clock.counter, clock.save()), before)
 
     def read(self, clock, file, table):
         snapshot = clock.snapshot()

@@ -3,6 +3,8 @@
 import mmap
 import multiprocessing
 import unittest
+from types import SimpleNamespace
+from unittest import mock
 
 import tkcore
 from support import opened
@@ -41,6 +43,21 @@ class Reads(unittest.TestCase):
         self.assertEqual(self.page.clock().words(), self.clock.words())
         self.page.publish(self.clock)
         self.assertEqual(self.page.read(timeout=0), self.clock.snapshot())
+
+    def test_a_reader_waits_as_long_as_its_timeout_says(self):
+        """The time is one that only the reader's pauses move, by 1/8 s each."""
+        moved = [0]
+        time = SimpleNamespace(monotonic=lambda: 1000 + moved[0] / 8,
+                               sleep=lambda _: moved.__setitem__(0, moved[0] + 1))
+        self.page.begin()
+        for timeout, pauses in ((0, 0), (0.125, 1), (1, 8), (2.5, 20)):
+            for read in (lambda: self.page.read(timeout),
+                         lambda: self.page.look(lambda: CYCLES, timeout),
+                         lambda: self.page.now(ClockId.TAI, lambda: CYCLES, timeout)):
+                moved[0] = 0
+                with mock.patch("tkcore.page._time", time), self.assertRaises(tkcore.Busy):
+                    read()
+                self.assertEqual(moved[0], pauses)
 
     def test_a_refused_command_lets_readers_in(self):
         with self.assertRaises(tkcore.Invalid):

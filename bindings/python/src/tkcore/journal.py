@@ -5,6 +5,7 @@ from __future__ import annotations
 import csv
 from array import array
 from bisect import bisect_left, bisect_right
+from copy import copy
 from operator import le
 from typing import Any, Iterable, List, Optional
 
@@ -134,6 +135,12 @@ class Journal:
                 if start < end:
                     snapshot.convert(given[start:end], clock, times[start:end])
         return out
+
+    def __copy__(self) -> Journal:
+        made = Journal.__new__(Journal)
+        made.clock = copy(self.clock)
+        made.readings, made.snapshots = self.readings[:], self.snapshots[:]
+        return made
 
 
 def _check_sorted(stamps: Any, view: memoryview) -> None:
