@@ -40,6 +40,14 @@ pub enum Beside {
     Updates,
 }
 
+/// The calls that are timed.
+#[derive(Clone, Copy)]
+struct Calls {
+    asked: Asked,
+    beside: Beside,
+    count: u64,
+}
+
 /// Adds up answers.
 #[derive(Clone, Copy)]
 struct Tally {
@@ -134,26 +142,64 @@ fn timed<L: Named + Send + Sync, S: SharedCounter + Sync, R: Threads + Wait + Ho
     alloc: Global,
     prepared: Prepared<SharedReader<'_, S>>,
     counter: &S,
-    asked: Asked,
-    beside: Beside,
-    count: u64,
+    calls: Calls,
 ) -> Option<(Duration, Tally)>
     requires named { IsNamed prepared L.page L.latch L.notice L.name L.parts L.callers }
 {
     let look = Look::first(alloc).ok()?;
-    let (keeper, mut callers) = SharedKeeper::<L, SharedReader<'_, S>>::open(alloc, prepared).ok()?;
-    let (mut caller, other) = (callers.pop()?, callers.pop()?);
-    let (keeper, look) = (&keeper, &look);
+    let (keeper, callers) = SharedKeeper::<L, SharedReader<'_, S>>::open(alloc, prepared).ok()?;
+    timed_by(rt, &keeper, callers, counter, &look, calls)
+}
+
+/// Times the calls of the last caller. Another one gives the commands.
+fn timed_by<
+    L: Named + Send + Sync,
+    C: Counter,
+    S: SharedCounter + Sync,
+    R: Threads + Wait + Hours + Sync,
+>(
+    rt: &R,
+    keeper: &SharedKeeper<L, C>,
+    mut callers: Vec<Caller<L>>,
+    counter: &S,
+    look: &Look,
+    calls: Calls,
+) -> Option<(Duration, Tally)> {
+    let (caller, other) = (callers.pop()?, callers.pop()?);
     let start = Instant::now(rt).ok()?;
-    let tally = match beside {
+    let tally = answered(rt, keeper, caller, other, counter, look, calls);
+    Some((start.elapsed(rt).ok()?, tally))
+}
+
+/// Lets a caller ask, while the other one gives commands if there are any, and returns the tally of
+/// the answers.
+fn answered<
+    L: Named + Send + Sync,
+    C: Counter,
+    S: SharedCounter + Sync,
+    R: Threads + Wait + Hours + Sync,
+>(
+    rt: &R,
+    keeper: &SharedKeeper<L, C>,
+    mut caller: Caller<L>,
+    other: Caller<L>,
+    counter: &S,
+    look: &Look,
+    calls: Calls,
+) -> Tally {
+    let Calls {
+        asked,
+        beside,
+        count,
+    } = calls;
+    match beside {
         Beside::Nothing => asks(rt, keeper, &mut caller, counter, look, asked, count),
         Beside::Updates => at_once(
             rt,
             move |enough: &AtomicBool| updates_slowly(rt, keeper, other, enough),
             move || asks(rt, keeper, &mut caller, counter, look, asked, count),
         ),
-    };
-    Some((start.elapsed(rt).ok()?, tally))
+    }
 }
 
 /// Prepares a keeper with the counter, opens it and times the calls.
@@ -161,13 +207,11 @@ fn tallied<S: SharedCounter + Sync, R: Threads + Wait + Hours + Sync>(
     rt: &R,
     alloc: Global,
     counter: &S,
-    asked: Asked,
-    beside: Beside,
-    count: u64,
+    calls: Calls,
 ) -> Option<(Duration, Tally)> {
     let reader = SharedReader::new(alloc, counter).ok()?;
     let prepared = prepared(rt, alloc, reader, 2)?;
-    timed::<Brand, S, R>(rt, alloc, prepared, counter, asked, beside, count)
+    timed::<Brand, S, R>(rt, alloc, prepared, counter, calls)
 }
 
 /// Times calls with a counter that every read advances. The check is the sum of the answers or,
@@ -182,7 +226,12 @@ pub fn turn<R: Threads + Wait + Hours + Sync>(
 ) -> Option<Turn> {
     let counter = SharedTicker::new(0, CYCLES);
     let count = effort.of(CALLS);
-    let (time, tally) = tallied(rt, alloc, &counter, asked, beside, count)?;
+    let calls = Calls {
+        asked,
+        beside,
+        count,
+    };
+    let (time, tally) = tallied(rt, alloc, &counter, calls)?;
     let check = match beside {
         Beside::Nothing => tally.sum,
         Beside::Updates => tally.kept,
@@ -199,7 +248,12 @@ pub fn by_host<R: Threads + Wait + Hours + Sync>(
 ) -> Option<Turn> {
     let counter = HostCounter::new(rt, Instant::now(rt).ok()?);
     let count = effort.of(CALLS);
-    let (time, tally) = tallied(rt, alloc, &counter, Asked::Now, Beside::Nothing, count)?;
+    let calls = Calls {
+        asked: Asked::Now,
+        beside: Beside::Nothing,
+        count,
+    };
+    let (time, tally) = tallied(rt, alloc, &counter, calls)?;
     let check = tally.kept;
     Some(Turn { time, count, check })
 }

@@ -45,21 +45,21 @@ fn worked<L: Named + Send + Sync, R: Threads + Wait + Hours + Sync>(
 ) -> Option<Turn>
     requires named { IsNamed prepared L.page L.latch L.notice L.name L.parts L.callers }
 {
-    let (keeper, mut callers) = SharedKeeper::<L, Ticker>::open(alloc, prepared).ok()?;
+    let (keeper, callers) = SharedKeeper::<L, Ticker>::open(alloc, prepared).ok()?;
+    timed(rt, &keeper, callers, work, commands)
+}
+
+/// Times the work of the last caller, and of the others.
+fn timed<L: Named + Send + Sync, R: Threads + Wait + Hours + Sync>(
+    rt: &R,
+    keeper: &SharedKeeper<L, Ticker>,
+    mut callers: Vec<Caller<L>>,
+    work: Work,
+    commands: u64,
+) -> Option<Turn> {
     let mut caller = callers.pop()?;
     let start = Instant::now(rt).ok()?;
-    let done = match work {
-        Work::OneThread => {
-            gives(rt, &keeper, &mut caller, commands);
-            Done::commands(commands)
-        }
-        Work::FourThreads => {
-            quarters(rt, &keeper, callers, commands, &AtomicU64::new(0));
-            Done::commands(commands)
-        }
-        Work::ReadsBeside => beside(rt, &keeper, &mut caller, callers, commands, false),
-        Work::FastReadsBeside => beside(rt, &keeper, &mut caller, callers, commands, true),
-    };
+    let done = done_by(rt, keeper, &mut caller, callers, work, commands);
     let time = start.elapsed(rt).ok()?;
     let last = keeper.read(rt, &mut caller);
     Some(Turn {
@@ -67,6 +67,29 @@ fn worked<L: Named + Send + Sync, R: Threads + Wait + Hours + Sync>(
         count: done.count,
         check: weighed(&last).wrapping_add(done.off(weight(&last))),
     })
+}
+
+/// Does the work.
+fn done_by<L: Named + Send + Sync, R: Threads + Wait + Sync>(
+    rt: &R,
+    keeper: &SharedKeeper<L, Ticker>,
+    caller: &mut Caller<L>,
+    others: Vec<Caller<L>>,
+    work: Work,
+    commands: u64,
+) -> Done {
+    match work {
+        Work::OneThread => {
+            gives(rt, keeper, caller, commands);
+            Done::commands(commands)
+        }
+        Work::FourThreads => {
+            quarters(rt, keeper, others, commands, &AtomicU64::new(0));
+            Done::commands(commands)
+        }
+        Work::ReadsBeside => beside(rt, keeper, caller, others, commands, false),
+        Work::FastReadsBeside => beside(rt, keeper, caller, others, commands, true),
+    }
 }
 
 /// Counts the work that was done.
