@@ -131,7 +131,10 @@ class Kernel(RunTest):
             with self.subTest(name):
                 test = self.compiled(f"vDSO/{name}", *(f"vDSO/{other}" for other in others))
                 report = self.succeeds(test, options=["--start", 1000000000])
-                self.assertEqual(verdicts(report), verdicts(host_call(test)))
+                host = host_call(test)
+                # a host without an alarm that wakes it up has no such clocks, and tkrun has
+                host = re.sub(r"(_ALARM .*\n)\[OK\]\tNo such clock", r"\1[OK]\tTest Passed", host)
+                self.assertEqual(verdicts(report), verdicts(host))
                 if name == "vdso_test_gettimeofday":
                     self.assertRegex(report, r"The time is 10000000\d\d\.\d")
 
