@@ -8,6 +8,7 @@ from runs import CAN_FILTER, STILL, TKRUN, RunTest, program
 MIDNIGHT = 1483228800
 BEFORE = 10  # the clocks start this many seconds before midnight
 FAR = 60     # s: a sleep that no step ends
+CYCLE = 1e-9  # s
 
 
 class Seconds(RunTest):
@@ -33,10 +34,12 @@ class Seconds(RunTest):
                 if line.startswith("sleep")]
 
     def sleeps_over_a_leap(self, status, *times, options):
-        """When sleeps until times of REALTIME after midnight end, in s after the leap was asked for."""
+        """When sleeps until times of REALTIME after midnight end, in s after the leap was asked for,
+        without the cycle by which each wait ends later."""
         lines = [f"adjtimex modes=20 maxerror=0 status={status}", "sleep 1 0",
                  *(f"sleep_until 0 {MIDNIGHT + time} 500000000" for time in times)]
-        return self.ends(lines, "--start", MIDNIGHT - BEFORE, *options)[1:]
+        ends = self.ends(lines, "--start", MIDNIGHT - BEFORE, *options)[1:]
+        return [round(end - CYCLE, 9) for end in ends]
 
     def test_sleeps_over_a_leap_second(self):
         # 23:59:58.5 and 00:00:00.5, 01.5 and 02.5
