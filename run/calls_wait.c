@@ -90,7 +90,11 @@ uint64_t wait_slice(struct wait *wait)
 	left = machine_left(wait->machine, (uint32_t)wait->clock,
 			    wait->time.tv_sec, (uint32_t)wait->time.tv_nsec);
 	wait->is_reached = !left;
-	return left < most ? left : most;
+	left = left < most ? left : most;
+	if (wait->ticket.waiter)
+		atomic_store(&wait->ticket.waiter->slice_end,
+			     host_nanos(CLOCK_MONOTONIC) + left);
+	return left;
 }
 
 struct timespec wait_slice_end(struct wait *wait)

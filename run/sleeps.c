@@ -15,6 +15,9 @@ enum { PASS_NANOS = 1000000000, PASS_LOOKS = 16 };
  * is woken again, ever more seldom. PASS_NANOS must fit between two times. */
 enum { AGAIN_NANOS = 1000000, AGAIN_TIMES = 10 };
 
+/* A slice that ends at its time isn't ended by the signal. */
+enum { SLICE_SLACK = 1000000 };
+
 /* A waiter whose time has come, when tkrun first saw its thread not run since then. The
  * thread may be stopped. Or it has left its wait by siglongjmp or execve, and waits for
  * something else. */
@@ -38,15 +41,10 @@ static const struct thread_state *find_thread(const struct tree *tree,
 	return NULL;
 }
 
-static bool is_listed(const struct tree *tree, int32_t thread)
-{
-	return find_thread(tree, thread);
-}
-
 /* Returns whether a thread has begun since the tree was scanned. */
 static bool is_new(struct tree *tree, int32_t thread)
 {
-	return !tree_scan(tree) || is_listed(tree, thread);
+	return !tree_scan(tree) || find_thread(tree, thread);
 }
 
 /* Returns what is known of a waiter whose time has come. */
@@ -137,7 +135,7 @@ static uint64_t first_waiter(struct run *run)
 
 		if (!thread || is_passed(i, owner))
 			continue;
-		if (!is_listed(&run->tree, thread)) {
+		if (!find_thread(&run->tree, thread)) {
 			if (is_new(&run->tree, thread))
 				return 0; /* not all wait any more */
 			waiter_free(waiter, owner);
@@ -195,44 +193,55 @@ static void wake_reached(struct run *run)
 	}
 }
 
-/* Wakes a thread whose time has come, or frees its entry if it is gone. Returns false if
- * there is none. */
-static bool wake_late(struct run *run, uint32_t index, uint64_t owner)
+/* Wakes a thread whose time has come, or frees its entry if it is gone. Returns the
+ * host's time at which to look at it again. */
+static uint64_t wake_late(struct run *run, uint32_t index, uint64_t owner,
+			  uint64_t now)
 {
 	struct waiter *waiter = &run->machine.control->waiters[index];
 	struct idle *idle = find_idle(index, owner);
-	uint64_t now = host_nanos(CLOCK_MONOTONIC);
 
-	if (now < idle->next)
-		return true;
-	if (!is_new(&run->tree, owner_thread(owner))) {
+	if (now >= idle->next && !is_new(&run->tree, owner_thread(owner))) {
 		waiter_free(waiter, owner);
-		return false;
+		return NEVER;
 	}
 	wake_again(run, waiter, idle, now);
-	return true;
+	return idle->next;
+}
+
+/* Wakes a thread if its time has come before its slice ends. Returns the host's time at
+ * which to look at it again. */
+static uint64_t look_at(struct run *run, uint32_t index, uint64_t now)
+{
+	struct waiter *waiter = &run->machine.control->waiters[index];
+	uint64_t owner = atomic_load(&waiter->owner), left;
+
+	if (owner_thread(owner) <= 0 || !waiter_has_signal(waiter, owner))
+		return NEVER;
+	left = machine_left(&run->machine, waiter->clock, waiter->sec,
+			    waiter->nsec);
+	if (left == NEVER || atomic_load(&waiter->owner) != owner ||
+	    atomic_load(&waiter->slice_end) < now + left + SLICE_SLACK)
+		return NEVER;
+	return left ? now + left : wake_late(run, index, owner, now);
 }
 
 void wake_changed(struct run *run)
 {
-	static bool is_any; /* has a thread been woken that still waits? */
+	static uint64_t next = NEVER;
 	static uint32_t seen;
 	struct control *control = run->machine.control;
-	uint32_t now = atomic_load(&run->machine.shared->generation),
+	uint32_t changes = atomic_load(&run->machine.shared->generation),
 		 count = atomic_load(&control->waiters_count);
+	uint64_t now = host_nanos(CLOCK_MONOTONIC), due;
 
-	if (now == seen && !is_any)
+	if (changes == seen && now < next)
 		return;
-	seen = now;
-	is_any = false;
+	seen = changes;
+	next = NEVER;
 	for (uint32_t i = 0; i < count; i++) {
-		struct waiter *waiter = &control->waiters[i];
-		uint64_t owner = atomic_load(&waiter->owner);
-
-		if (owner_thread(owner) > 0 &&
-		    waiter_has_signal(waiter, owner) &&
-		    !waiter_left(run, waiter, owner))
-			is_any |= wake_late(run, i, owner);
+		due = look_at(run, i, now);
+		next = due < next ? due : next;
 	}
 }
 
@@ -260,9 +269,8 @@ static bool has_unanswered(const struct run *run)
 	return false;
 }
 
-/* Threads wait for slices of the host's time, too. One of them may look all at
- * rest, then act on its time and leave the list. So the list is looked at before
- * the threads are, and after it. */
+/* A thread may look at rest, then act on its time and leave the list. So the list is
+ * looked at before the threads are, and after it. */
 bool move_counter(struct run *run)
 {
 	static const struct order update = { .command = TKC_CMD_UPDATE };
