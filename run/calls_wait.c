@@ -26,6 +26,23 @@ void wait_begin(struct wait *wait, struct machine *m, int clock,
 						(uint32_t)time->tv_nsec);
 }
 
+bool wait_span(struct wait *wait, const struct timespec *span)
+{
+	struct machine *m = machine();
+	struct timespec until;
+
+	if (!m || !span)
+		return false;
+	if (!span->tv_sec && !span->tv_nsec) {
+		machine_looked(m, 1);
+		return false;
+	}
+	if (!machine_after(m, CLOCK_MONOTONIC, span, &until))
+		return false;
+	wait_begin(wait, m, CLOCK_MONOTONIC, &until);
+	return true;
+}
+
 static void block(int how, int number, sigset_t *before)
 {
 	sigset_t set;
@@ -100,4 +117,9 @@ uint64_t wait_slice(struct wait *wait)
 struct timespec wait_slice_end(struct wait *wait)
 {
 	return span_of(wait_slice(wait) + host_nanos(CLOCK_MONOTONIC));
+}
+
+struct timespec wait_next(struct wait *wait)
+{
+	return span_of(wait_slice(wait));
 }
