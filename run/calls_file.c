@@ -1,45 +1,18 @@
 /* SPDX-License-Identifier: MIT OR Apache-2.0 */
-/* The calls that wait for files, messages or signals, for a span or until a
- * time. */
+/* The calls that wait for files for a span. */
 #define _GNU_SOURCE
 #include "calls_wait.h"
 
-#include <mqueue.h>
 #include <poll.h>
 #include <signal.h>
 #include <string.h>
 #include <sys/epoll.h>
 #include <sys/select.h>
-#include <sys/sem.h>
 
 enum {
 	WORD_BITS = 8 * sizeof(long),
 	FILES_MOST = 1 << 17, /* of select: their copies take 48 KB of the stack */
 };
-
-/* Begins a wait for a span of MONOTONIC. Returns false if the host's call is
- * to be made once with it: it is no limit, nothing, or no span. */
-static bool wait_span(struct wait *wait, const struct timespec *span)
-{
-	struct machine *m = machine();
-	struct timespec until;
-
-	if (!m || !span)
-		return false;
-	if (!span->tv_sec && !span->tv_nsec) {
-		machine_looked(m, 1);
-		return false;
-	}
-	if (!machine_after(m, CLOCK_MONOTONIC, span, &until))
-		return false;
-	wait_begin(wait, m, CLOCK_MONOTONIC, &until);
-	return true;
-}
-
-static struct timespec next_slice(struct wait *wait)
-{
-	return span_of(wait_slice(wait));
-}
 
 static struct timespec millis_span(int millis)
 {
@@ -57,7 +30,7 @@ EXPORT int ppoll(struct pollfd *files, nfds_t count,
 		return REAL(ppoll)(files, count, span, mask);
 	wait_mask(&wait, mask);
 	do {
-		slice = next_slice(&wait);
+		slice = wait_next(&wait);
 		ready = REAL(ppoll)(files, count, &slice, &wait.mask);
 	} while (!ready && !wait.is_reached);
 	wait_end(&wait);
@@ -97,7 +70,7 @@ static int select_slices(struct wait *wait, int count, fd_set *const sets[3],
 	copy_sets(sets, copies, size, false);
 	wait_mask(wait, mask);
 	for (;;) {
-		slice = next_slice(wait);
+		slice = wait_next(wait);
 		ready = REAL(pselect)(count, sets[0], sets[1], sets[2], &slice,
 				      &wait->mask);
 		if (ready || wait->is_reached)
@@ -156,7 +129,7 @@ EXPORT int epoll_pwait2(int file, struct epoll_event *events, int most,
 		return REAL(epoll_pwait2)(file, events, most, span, mask);
 	wait_mask(&wait, mask);
 	do {
-		slice = next_slice(&wait);
+		slice = wait_next(&wait);
 		ready = REAL(epoll_pwait2)(file, events, most, &slice,
 					   &wait.mask);
 	} while (!ready && !wait.is_reached);
@@ -201,115 +174,4 @@ EXPORT int epoll_wait(int file, struct epoll_event *events, int most,
 		      int millis)
 {
 	return epoll_pwait(file, events, most, millis, NULL);
-}
-
-EXPORT int sigtimedwait(const sigset_t *restrict set, siginfo_t *restrict info,
-			const struct timespec *restrict span)
-{
-	struct timespec slice;
-	struct wait wait;
-	sigset_t own = *set;
-	int number;
-
-	if (!wait_span(&wait, span))
-		return REAL(sigtimedwait)(set, info, span);
-	wait_unmasked(&wait, -EAGAIN);
-	if (wait.is_signalled)
-		sigdelset(&own, WAKE_SIGNAL);
-	do {
-		slice = next_slice(&wait);
-		number = REAL(sigtimedwait)(&own, info, &slice);
-	} while (number < 0 && errno == EAGAIN && !wait.is_reached);
-	wait_end(&wait);
-	return number;
-}
-
-/* An operation that doesn't wait fails as one whose time has come, so a wait
- * with one can't be made in slices. */
-static bool has_no_wait(const struct sembuf *operations, size_t count)
-{
-	for (size_t i = 0; i < count; i++) {
-		if (operations[i].sem_flg & IPC_NOWAIT)
-			return true;
-	}
-	return false;
-}
-
-EXPORT int semtimedop(int set, struct sembuf *operations, size_t count,
-		      const struct timespec *span)
-{
-	struct timespec slice;
-	struct wait wait;
-	int result;
-
-	if (machine() && span && has_no_wait(operations, count)) {
-		note_host(machine(), HOST_SEMAPHORES);
-		return REAL(semtimedop)(set, operations, count, span);
-	}
-	if (!wait_span(&wait, span))
-		return REAL(semtimedop)(set, operations, count, span);
-	wait_unmasked(&wait, -EAGAIN);
-	do {
-		slice = next_slice(&wait);
-		result = REAL(semtimedop)(set, operations, count, &slice);
-	} while (result < 0 && errno == EAGAIN && !wait.is_reached);
-	wait_end(&wait);
-	return result;
-}
-
-/* Begins a wait until a time of REALTIME, whose slices end on the host's. */
-static bool wait_time(struct wait *wait, const struct timespec *time)
-{
-	struct machine *m = machine();
-
-	if (!m || !time || is_bad(time) || time->tv_sec < 0)
-		return false;
-	wait_begin(wait, m, CLOCK_REALTIME, time);
-	wait_unmasked(wait, -ETIMEDOUT);
-	return true;
-}
-
-static struct timespec real_slice_end(struct wait *wait)
-{
-	uint64_t until = wait_slice(wait) + host_nanos(CLOCK_REALTIME);
-
-	return (struct timespec){ (time_t)(until / NANOS),
-				  (long)(until % NANOS) };
-}
-
-EXPORT ssize_t mq_timedreceive(mqd_t queue, char *restrict text, size_t size,
-			       unsigned int *restrict priority,
-			       const struct timespec *restrict time)
-{
-	struct timespec until;
-	struct wait wait;
-	ssize_t length;
-
-	if (!wait_time(&wait, time))
-		return REAL(mq_timedreceive)(queue, text, size, priority, time);
-	do {
-		until = real_slice_end(&wait);
-		length = REAL(mq_timedreceive)(queue, text, size, priority,
-					       &until);
-	} while (length < 0 && errno == ETIMEDOUT && !wait.is_reached);
-	wait_end(&wait);
-	return length;
-}
-
-EXPORT int mq_timedsend(mqd_t queue, const char *text, size_t size,
-			unsigned int priority, const struct timespec *time)
-{
-	struct timespec until;
-	struct wait wait;
-	int result;
-
-	if (!wait_time(&wait, time))
-		return REAL(mq_timedsend)(queue, text, size, priority, time);
-	do {
-		until = real_slice_end(&wait);
-		result =
-			REAL(mq_timedsend)(queue, text, size, priority, &until);
-	} while (result < 0 && errno == ETIMEDOUT && !wait.is_reached);
-	wait_end(&wait);
-	return result;
 }

@@ -26,6 +26,23 @@ void wait_begin(struct wait *wait, struct machine *m, int clock,
 						(uint32_t)time->tv_nsec);
 }
 
+bool wait_span(struct wait *wait, const struct timespec *span)
+{
+	struct machine *m = machine();
+	struct timespec until;
+
+	if (!m || !span)
+		return false;
+	if (!span->tv_sec && !span->tv_nsec) {
+		machine_looked(m, 1);
+		return false;
+	}
+	if (!machine_after(m, CLOCK_MONOTONIC, span, &until))
+		return false;
+	wait_begin(wait, m, CLOCK_MONOTONIC, &until);
+	return true;
+}
+
 static void block(int how, int number, sigset_t *before)
 {
 	sigset_t set;
@@ -90,10 +107,19 @@ uint64_t wait_slice(struct wait *wait)
 	left = machine_left(wait->machine, (uint32_t)wait->clock,
 			    wait->time.tv_sec, (uint32_t)wait->time.tv_nsec);
 	wait->is_reached = !left;
-	return left < most ? left : most;
+	left = left < most ? left : most;
+	if (wait->ticket.waiter)
+		atomic_store(&wait->ticket.waiter->slice_end,
+			     host_nanos(CLOCK_MONOTONIC) + left);
+	return left;
 }
 
 struct timespec wait_slice_end(struct wait *wait)
 {
 	return span_of(wait_slice(wait) + host_nanos(CLOCK_MONOTONIC));
+}
+
+struct timespec wait_next(struct wait *wait)
+{
+	return span_of(wait_slice(wait));
 }

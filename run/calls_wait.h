@@ -29,6 +29,10 @@ struct wait {
 void wait_begin(struct wait *wait, struct machine *m, int clock,
 		const struct timespec *time);
 
+/* Lists a wait for a span of MONOTONIC. Returns false if the host's call is to be made once
+ * with it: it is no limit, nothing, or no span. */
+bool wait_span(struct wait *wait, const struct timespec *span);
+
 /*
  * Prepare the wait's slices. After wait_mask, all signals are blocked except in slices,
  * which get wait->mask. If a signal came between two slices, the wait wouldn't be
@@ -43,9 +47,10 @@ void wait_unmasked(struct wait *wait, long result);
 /* Ends a wait. Handlers of signals may run, which leave errno. */
 void wait_end(struct wait *wait);
 
-/* Returns the next slice: its ns, or its end on the host's MONOTONIC. A slice is 0 if
- * the time has come. The function that calls this makes the call that waits. */
+/* Returns the next slice: its ns, as a span, or its end on the host's MONOTONIC. A slice is
+ * 0 if the time has come. The function that calls this makes the call that waits. */
 uint64_t wait_slice(struct wait *wait);
+struct timespec wait_next(struct wait *wait);
 struct timespec wait_slice_end(struct wait *wait);
 
 #endif

@@ -83,6 +83,7 @@ struct waiter {
 	_Atomic uint32_t changes;
 	_Atomic int32_t process; /* of a thread that lets a signal end its wait */
 	_Atomic uint64_t signal;
+	_Atomic uint64_t slice_end; /* the host's ns until which it waits without it */
 };
 
 /* The entry of a wait, or NULL if it isn't listed, and by which owner it is this

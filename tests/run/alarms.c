@@ -4,6 +4,8 @@
  * a handler ran and its wait went on, and how often a wait ended in another wrong way.
  *
  *     alarms        alarms after multiples of 0.1 s of the host, at the speed 50
+ *     alarms taken  the same with a handler for signal 63, so that waits are made in slices
+ *                   of 0.1 s of the host, or of a millisecond with a counter of sleeps
  *     alarms own    the program uses signal 63 for itself
  */
 #define _GNU_SOURCE
@@ -86,7 +88,6 @@ static void use_own(void)
 	pthread_mutex_t mutex = PTHREAD_MUTEX_INITIALIZER;
 	pthread_cond_t cond = PTHREAD_COND_INITIALIZER;
 
-	signal(OWN, on_own);
 	if (poll(NULL, 0, 1000) || ppoll(NULL, 0, &span, NULL))
 		counts->wrong++;
 	time = after(CLOCK_REALTIME, BILLION);
@@ -101,15 +102,17 @@ static void use_own(void)
 int main(int count, char **words)
 {
 	struct sigaction action = { .sa_handler = on_alarm };
+	bool uses_own = count > 1 && !strcmp(words[1], "own");
 
-	(void)words;
 	counts = mmap(NULL, sizeof(*counts), PROT_READ | PROT_WRITE,
 		      MAP_SHARED | MAP_ANONYMOUS, -1, 0);
 	sigaction(SIGALRM, &action, NULL);
+	if (count > 1)
+		signal(OWN, on_own);
 	for (int i = 0; i < PROCESSES; i++) {
 		if (fork())
 			continue;
-		if (count > 1)
+		if (uses_own)
 			use_own();
 		else
 			run_rounds();

@@ -169,46 +169,43 @@ static int by_inheriting_mutex(int64_t span, int64_t *left)
 	return at_time(pthread_mutex_timedlock(&inheriting, &time));
 }
 
-static int by_timedrdlock(int64_t span, int64_t *left)
+static int wait_rwlock(int64_t span, bool is_read, clockid_t clock)
 {
 	struct timespec time;
 
-	(void)left;
 	start_holder();
-	time = after(CLOCK_REALTIME, span);
-	return at_time(pthread_rwlock_timedrdlock(&rwlock, &time));
+	time = after(clock, span);
+	if (clock == CLOCK_MONOTONIC)
+		return at_time(is_read ? pthread_rwlock_clockrdlock(
+						 &rwlock, clock, &time)
+				       : pthread_rwlock_clockwrlock(
+						 &rwlock, clock, &time));
+	return at_time(is_read ? pthread_rwlock_timedrdlock(&rwlock, &time)
+			       : pthread_rwlock_timedwrlock(&rwlock, &time));
+}
+
+static int by_timedrdlock(int64_t span, int64_t *left)
+{
+	(void)left;
+	return wait_rwlock(span, true, CLOCK_REALTIME);
 }
 
 static int by_timedwrlock(int64_t span, int64_t *left)
 {
-	struct timespec time;
-
 	(void)left;
-	start_holder();
-	time = after(CLOCK_REALTIME, span);
-	return at_time(pthread_rwlock_timedwrlock(&rwlock, &time));
+	return wait_rwlock(span, false, CLOCK_REALTIME);
 }
 
 static int by_clockrdlock(int64_t span, int64_t *left)
 {
-	struct timespec time;
-
 	(void)left;
-	start_holder();
-	time = after(CLOCK_MONOTONIC, span);
-	return at_time(
-		pthread_rwlock_clockrdlock(&rwlock, CLOCK_MONOTONIC, &time));
+	return wait_rwlock(span, true, CLOCK_MONOTONIC);
 }
 
 static int by_clockwrlock(int64_t span, int64_t *left)
 {
-	struct timespec time;
-
 	(void)left;
-	start_holder();
-	time = after(CLOCK_MONOTONIC, span);
-	return at_time(
-		pthread_rwlock_clockwrlock(&rwlock, CLOCK_MONOTONIC, &time));
+	return wait_rwlock(span, false, CLOCK_MONOTONIC);
 }
 
 static int by_timedjoin(int64_t span, int64_t *left)
@@ -230,14 +227,19 @@ static int by_clockjoin(int64_t span, int64_t *left)
 					    &time));
 }
 
+static int wait_futex(int operation, const struct timespec *time)
+{
+	return error_of((int)syscall(SYS_futex, &word, operation, 0, time, NULL,
+				     FUTEX_BITSET_MATCH_ANY),
+			ETIMEDOUT);
+}
+
 static int by_futex(int64_t span, int64_t *left)
 {
 	struct timespec time = span_of(span);
 
 	(void)left;
-	return error_of((int)syscall(SYS_futex, &word, FUTEX_WAIT_PRIVATE, 0,
-				     &time, NULL, 0),
-			ETIMEDOUT);
+	return wait_futex(FUTEX_WAIT_PRIVATE, &time);
 }
 
 static int by_futex_bitset(int64_t span, int64_t *left)
@@ -245,10 +247,7 @@ static int by_futex_bitset(int64_t span, int64_t *left)
 	struct timespec time = after(CLOCK_REALTIME, span);
 
 	(void)left;
-	return error_of((int)syscall(SYS_futex, &word,
-				     FUTEX_WAIT_BITSET | FUTEX_CLOCK_REALTIME,
-				     0, &time, NULL, FUTEX_BITSET_MATCH_ANY),
-			ETIMEDOUT);
+	return wait_futex(FUTEX_WAIT_BITSET | FUTEX_CLOCK_REALTIME, &time);
 }
 
 /* The kernel restarts this call after a signal. */
@@ -259,9 +258,7 @@ static int by_futex_lock_pi(int64_t span, int64_t *left)
 	(void)left;
 	start_holder();
 	time = after(CLOCK_REALTIME, span);
-	return error_of((int)syscall(SYS_futex, &word, FUTEX_LOCK_PI, 0, &time,
-				     NULL, 0),
-			ETIMEDOUT);
+	return wait_futex(FUTEX_LOCK_PI, &time);
 }
 
 static int by_futex_lock_pi2(int64_t span, int64_t *left)
@@ -271,9 +268,7 @@ static int by_futex_lock_pi2(int64_t span, int64_t *left)
 	(void)left;
 	start_holder();
 	time = after(CLOCK_MONOTONIC, span);
-	return error_of((int)syscall(SYS_futex, &word, FUTEX_LOCK_PI2, 0,
-				     &time, NULL, 0),
-			ETIMEDOUT);
+	return wait_futex(FUTEX_LOCK_PI2, &time);
 }
 
 static int by_futex_waitv(int64_t span, int64_t *left)

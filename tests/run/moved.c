@@ -47,13 +47,17 @@ static bool by_sem(const struct timespec *time)
 	return sem_timedwait(&semaphore, time) && errno == ETIMEDOUT;
 }
 
+/* A step back, as an inserted second is, may let it return early. */
 static bool by_cond(const struct timespec *time)
 {
 	pthread_mutex_t mutex = PTHREAD_MUTEX_INITIALIZER;
 	pthread_cond_t cond = PTHREAD_COND_INITIALIZER;
+	int error = 0;
 
 	pthread_mutex_lock(&mutex);
-	return pthread_cond_timedwait(&cond, &mutex, time) == ETIMEDOUT;
+	while (!error)
+		error = pthread_cond_timedwait(&cond, &mutex, time);
+	return error == ETIMEDOUT;
 }
 
 static bool by_mutex(const struct timespec *time)

@@ -134,6 +134,25 @@ class Moved(RunTest):
             -1250: (1250, False), -500: (1500, True), 0: (1500, False), 500: (2000, False),
             1250: (2750, False), 86399000: (86400500, False)})
 
+    def check_running_leap(self, how, speed, most, ends):
+        """Checks that waits on a running counter end at these ms, and at most so many ns late."""
+        for before in (-1, 100):
+            lines = parse(self.run_on("--speed", speed, "--start", LEAP, "--", program("moved"),
+                                      how, before, *ends))
+            self.assertEqual(len(lines), 7 * len(ends))
+            for name, time, span in lines:
+                with self.subTest(name, how=how, before=before, time=time):
+                    # the waits begin a moment after the clocks
+                    self.assertGreater(int(span), ends[int(time)] * MILLI - NANOS // 2)
+                    self.assertLess(int(span), ends[int(time)] * MILLI + most)
+
+    def test_an_inserted_second_on_a_running_counter(self):
+        self.check_running_leap("insert", 0.5, BUSY, {-500: 2000, 0: 3500, 250: 3750})
+
+    def test_a_deleted_second_on_a_running_counter(self):
+        # half a second of these clocks takes 2.5 s of the host
+        self.check_running_leap("delete", 0.2, NANOS // 2, {0: 1500, 250: 1750})
+
     def test_a_second_that_can_not_be_deleted_any_more(self):
         # the discipline learns of it when 23:59:59 begins, and deletes that of the next day
         self.check_leap("delete", "2016-12-31T23:59:58.5Z", {
@@ -195,9 +214,10 @@ class Signals(RunTest):
     def test_signals_next_to_the_ends_of_waits(self):
         # a handler that has run ends the wait, whenever its signal comes
         for options in (STILL, ["--speed", 50]):
-            with self.subTest(options):
-                self.assertEqual(self.run_on(*options, "--", program("alarms")),
-                                 "lost 0, wrong 0\n")
+            for how in ([], ["taken"]):
+                with self.subTest(options, how=how):
+                    self.assertEqual(self.run_on(*options, "--", program("alarms"), *how),
+                                     "lost 0, wrong 0\n")
 
     def test_a_program_that_uses_the_signal_itself(self):
         for options in (STILL, ["--speed", 20]):
