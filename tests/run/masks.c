@@ -1,8 +1,7 @@
 /* SPDX-License-Identifier: MIT OR Apache-2.0 */
 /*
  * Makes each call that tkrun answers with several signals blocked, in the first thread and in another
- * one, and prints each call after which other signals are blocked, or after which a signal that came
- * before it isn't taken once.
+ * one. Prints each after which others are blocked, or a signal isn't taken once, when it may be.
  *
  *     masks [static]     without the waits of locks, which are the host's in a static program
  */
@@ -46,7 +45,7 @@ static void block(unsigned long set)
 	syscall(SYS_rt_sigprocmask, SIG_SETMASK, &set, NULL, SET_BYTES);
 }
 
-/* On a counter that runs, some of these reads let a second begin. */
+/* On a counter that runs, some let a second begin. */
 static void read_clocks(void)
 {
 	struct timespec time;
@@ -67,16 +66,12 @@ static void read_micros(void)
 
 static void set_time(void)
 {
-	struct timespec time = { 2000000000, 5 };
-
-	clock_settime(CLOCK_REALTIME, &time);
+	clock_settime(CLOCK_REALTIME, &(struct timespec){ 2000000000, 5 });
 }
 
 static void set_bad_time(void)
 {
-	struct timespec time = { -5, 5 };
-
-	clock_settime(CLOCK_REALTIME, &time);
+	clock_settime(CLOCK_REALTIME, &(struct timespec){ -5, 5 });
 }
 
 static void set_micros(void)
@@ -155,13 +150,14 @@ static void wait_files_with_masks(void)
 {
 	struct epoll_event event;
 	int file = epoll_create1(0);
-	sigset_t none;
+	sigset_t one;
 
-	sigemptyset(&none);
-	ppoll(NULL, 0, &SPAN, &none);
-	pselect(0, NULL, NULL, NULL, &SPAN, &none);
+	sigemptyset(&one);
+	sigaddset(&one, SIGUSR1);
+	ppoll(NULL, 0, &SPAN, &one);
+	pselect(0, NULL, NULL, NULL, &SPAN, &one);
 	epoll_wait(file, &event, 1, 10);
-	epoll_pwait(file, &event, 1, 10, &none);
+	epoll_pwait(file, &event, 1, 10, &one);
 	close(file);
 }
 
@@ -199,9 +195,7 @@ static void set_timers(void)
 
 static void set_alarms(void)
 {
-	struct itimerval spec = { .it_value = { 100, 0 } };
-
-	setitimer(ITIMER_REAL, &spec, NULL);
+	setitimer(ITIMER_REAL, &(struct itimerval){ .it_value = { 100, 0 } }, NULL);
 	alarm(0);
 }
 
@@ -264,6 +258,10 @@ static void check_call(size_t call, unsigned long set, const char *thread)
 	if (blocked() != set) {
 		printf("%s in %s: %#lx is blocked, not %#lx\n", CALLS[call].name, thread,
 		       blocked(), set);
+		faults++;
+	}
+	if (set & bit(SIGUSR1) && taken != was) {
+		printf("%s in %s: a blocked signal was taken\n", CALLS[call].name, thread);
 		faults++;
 	}
 	block(0);

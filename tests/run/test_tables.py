@@ -156,7 +156,7 @@ class Tables(RunTest):
     def check_table(self, table, *options):
         """Makes all calls of a table, without a record and with one, whose reads are calls."""
         for name in self.PROGRAMS:
-            for record in [[], ["--check"]]:
+            for record in [[], ["--check", "--log", self.folder / "log"]]:
                 with self.subTest(name, record=record):
                     answers = self.listed([line for line, _ in table], *options, *record, name=name)
                     self.assertEqual([(line, answer) for (line, _), answer in zip(table, answers)],

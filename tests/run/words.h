@@ -24,7 +24,7 @@ static inline long argument(int place)
 
 static inline void show_result(long result)
 {
-	printf("%ld %s", result, result == -1 && errno ? strerrorname_np(errno) : "-");
+	printf("%ld %s", result, errno ? strerrorname_np(errno) : "-");
 }
 
 static inline void show_time(long result, struct timespec time)
