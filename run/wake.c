@@ -153,9 +153,10 @@ static void take_signal(void)
 	sigemptyset(&set);
 	sigaddset(&set, WAKE_SIGNAL);
 	pthread_sigmask(SIG_BLOCK, &set, &saved);
-	if (!is_late)
-		host_call(SYS_rt_sigtimedwait, (long)&set, 0, (long)&most,
-			  sizeof(uint64_t), 0, 0);
+	while (!is_late &&
+	       host_call(SYS_rt_sigtimedwait, (long)&set, 0, (long)&most,
+			 sizeof(uint64_t), 0, 0) == -EINTR)
+		; /* by another signal */
 	pthread_sigmask(SIG_SETMASK, &saved, NULL);
 }
 
