@@ -3,7 +3,6 @@
 #define _GNU_SOURCE
 #include "calls.h"
 
-#include <string.h>
 #include <sys/time.h>
 #include <sys/timex.h>
 
@@ -91,16 +90,11 @@ EXPORT int ntp_gettimex(struct ntptimeval *out)
 	return result;
 }
 
-/* The header redirects ntp_gettime to ntp_gettimex. The older function stores
- * no TAI offset. */
+/* The header redirects ntp_gettime to ntp_gettimex. glibc 2.36's older function stores the
+ * TAI offset, too. */
 EXPORT int old_ntp_gettime(struct ntptimeval *out) __asm__("ntp_gettime");
 
 int old_ntp_gettime(struct ntptimeval *out)
 {
-	struct ntptimeval all = { 0 };
-	int result = ntp_gettimex(&all);
-
-	if (result >= 0)
-		memcpy(out, &all, offsetof(struct ntptimeval, tai));
-	return result;
+	return ntp_gettimex(out);
 }

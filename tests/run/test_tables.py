@@ -29,6 +29,7 @@ READS = [
     ("timespec_get 1", "1 - 1000000000.123456789"), ("timespec_get 2", "0 - 77.000000077"),
     ("ftime", "0 - 1000000000.123 0 0"),
     ("ntp_gettime", "5 - 1000000000.123456 16000000 16000000 0"),
+    ("old_ntp_gettime", "5 - 1000000000.123456 16000000 16000000 0"),
 ]
 
 # a set, and what is read after it: the time and the zone have different numbers
@@ -107,8 +108,13 @@ SLEEPING = [
 ASLEEP_STEERING = ["adjtimex modes=2 freq=5", "sys_adjtimex modes=2 freq=5", "adjtimex modes=0",
                    "clock_adjtime 0 modes=16 status=64", "ntp_adjtime modes=0x100 sec=5 sub=5"]
 
-# calls that a program without the right to set a clock makes
+# calls that a program without the right to set a clock makes. The clocks of alarms, 8 and 9, depend on
+# the host's hardware
 REFUSED = [
+    *(f"{call} {clock}" for call in ("gettime", "sys_gettime", "getres", "sys_getres")
+      for clock in (*range(8), 10, 11, 12, 15, 24, 77, -1, -2, -3, -6, -1000)),
+    "gettimeofday", "sys_gettimeofday", "micros", "time", "sys_time", "ftime", "ntp_gettime",
+    "old_ntp_gettime", *(f"timespec_get {base}" for base in (0, 1, 2, -1)),
     *(f"{call} {clock} {words}" for call in ("settime", "sys_settime") for clock in (*range(12), 77)
       for words in ("1600000000 5", "1600000000 1000000000", "-1 5", "1600000000 -1")),
     *(f"{call} {words}" for call in ("settimeofday", "sys_settimeofday") for words in (
@@ -164,13 +170,6 @@ class Tables(RunTest):
 
     def test_reads(self):
         self.check_table(READS, *OPENED)
-
-    def test_reads_of_the_old_function(self):
-        # it stores no TAI offset, except in a static program, which doesn't have it
-        offsets = {"calls": "77", "static_calls": "0"}
-        for name in self.PROGRAMS:
-            self.assertEqual(self.listed(["old_ntp_gettime"], *OPENED, name=name),
-                             [f"5 - 1000000000.123456 16000000 16000000 {offsets[name]}"])
 
     def test_sets(self):
         self.check_table(SETS, *OPENED)
