@@ -4,8 +4,8 @@
  *   - Each act does the stores of tkcore_page.h, in its order.
  *   - A writer of tkcore_page.h publishes before each access of each read, and of the call that
  *     rebuilds clocks. A read returns the latest snapshot. Clocks are refused with TKC_BUSY.
- *   - Writers die before each store of a takeover and of a command, 5,336 in all. The next one takes
- *     over, while three processes read. No reader gets a mixture, waits forever or goes back.
+ *   - Writers die before each store of a takeover and of a command, 5,336 in all. The next one
+ *     takes over, while three processes read. No reader gets a mixture, waits forever or goes back.
  */
 #define _GNU_SOURCE
 
