@@ -66,6 +66,44 @@ check_crate() {
         { cat "$work/cargo" && fail "cargo makes no package of the Rust crate"; }
 }
 
+# PROGRAM LIBRARY: builds deaths.rs over the crate that cargo built
+build_rust_deaths() {
+    rustc --edition 2021 -O -D warnings --extern "tkcore=$2" -L "native=$work" \
+        "$top/bindings/tests/deaths.rs" -o "$1" || fail "deaths.rs doesn't compile"
+}
+
+# NAME FILE EXPRESSION: the crate with a fault, which sed makes, must be found
+death_control() {
+    rm -rf "$work/faulty"
+    cp -r "$top/bindings/rust" "$work/faulty"
+    sed -i "$3" "$work/faulty/src/$2"
+    ! cmp -s "$work/faulty/src/$2" "$top/bindings/rust/src/$2" ||
+        fail "the Rust crate has no place for: $1"
+    (cd "$work/faulty" && CARGO_TARGET_DIR=$work/faulty_target cargo build -q --release --lib) ||
+        fail "the Rust crate isn't built with: $1"
+    build_rust_deaths "$work/faulty_deaths" "$work/faulty_target/release/libtkcore.rlib"
+    ! LD_LIBRARY_PATH=$work timeout 450 "$work/faulty_deaths" >"$work/found" 2>&1 ||
+        fail "not found in the Rust crate: $1"
+}
+
+# Each store of the crate is tkcore_page.h's, no read misses a move, and writers die; and crates in
+# which this isn't so are found.
+check_rust_deaths() {
+    build_rust_deaths "$work/deaths" "$work/target/release/libtkcore.rlib"
+    LD_LIBRARY_PATH=$work timeout 450 "$work/deaths" ||
+        fail "a page or a latch of Rust isn't tkcore_page.h's"
+    death_control "the latch's other copy stays as it was" latch.rs \
+        '/pub fn recover/,/^    }/s/self.shared.store(whole ^ 1, &words);//'
+    death_control "the page is one before it is whole" shared.rs \
+        '/fn init/,/^    }/s/layout.store(0, Relaxed)/layout.store(layout, Relaxed)/'
+    death_control "clocks are taken although the page moved" page.rs \
+        '/pub fn clock(/,/^    }/s/is_moved(sequence)/is_moved(self.shared.sequence())/'
+    death_control "a begin after a death makes the sequence even" page.rs \
+        '/pub fn begin/,/^    }/s/sequence | 1/sequence + 1/'
+    death_control "a move by one publication isn't noticed" shared.rs \
+        '/fn is_moved/,/^    }/s/!= sequence/> sequence + 2/'
+}
+
 # The tests over the model instead of the library, compiled with the sanitizers: the crate passes C
 # only pointers to memory that it has, with the right lengths, and the model gives the same answers.
 check_rust_sanitized() {

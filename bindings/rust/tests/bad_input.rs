@@ -120,11 +120,17 @@ fn memory_of_random_words() {
 fn memory_without_a_page() {
     let clock = opened();
     let memory = [const { AtomicU64::new(0) }; PAGE_WORDS];
-    let few = &memory[..LATCH_WORDS - 1];
-    assert_eq!(Page::attach(few).err(), Some(Refusal::BadMemory));
-    assert_eq!(Page::create(few, &clock).err(), Some(Refusal::BadMemory));
-    assert_eq!(Latch::attach(few).err(), Some(Refusal::BadMemory));
-    assert_eq!(Latch::create(few, &clock.snapshot()).err(), Some(Refusal::BadMemory));
+    for size in 0..PAGE_WORDS {
+        assert_eq!(Page::attach(&memory[..size]).err(), Some(Refusal::BadMemory));
+        assert_eq!(Page::create(&memory[..size], &clock).err(), Some(Refusal::BadMemory));
+    }
+    for size in 0..LATCH_WORDS {
+        let few = &memory[..size];
+        assert_eq!(Latch::attach(few).err(), Some(Refusal::BadMemory));
+        assert_eq!(Latch::create(few, &clock.snapshot()).err(), Some(Refusal::BadMemory));
+    }
+    assert!(memory.iter().all(|word| word.load(Relaxed) == 0)); // a refused call writes nothing
+    assert_eq!((PAGE_WORDS, LATCH_WORDS), (32, 28));
     assert_eq!(Page::attach(&memory).err(), Some(Refusal::BadLayout));
     Page::create(&memory, &clock).unwrap();
     assert_eq!(Latch::attach(&memory).err(), Some(Refusal::BadLayout));

@@ -35,8 +35,10 @@ fn apply_all(clock: &mut Clock, file: &str, name: &str) {
     for row in table(file, name) {
         let row = row.list();
         let command = command(&row[1], row[2].number(), row[3].number()).unwrap();
+        let before = clock.clone();
         let applied = clock.apply(row[0].number(), command);
         assert_eq!(of(&applied), row[4].refusal(), "{row:?}");
+        assert_eq!(*clock == before, applied.is_err(), "{row:?}");
     }
 }
 

@@ -1,0 +1,130 @@
+/* SPDX-License-Identifier: MIT OR Apache-2.0 */
+/* What the threads of page_model.c do: a writer's life, and a read. */
+#include "page_model_state.h"
+
+/* Does a command on the page. */
+static void command_page(struct tkc_clock *clock, int has_begin)
+{
+#ifdef READING_FIRST
+	clock->number = model_command(clock->number);
+	tkc_page_begin(&page);
+#else
+	if (has_begin)
+		tkc_page_begin(&page);
+	clock->number = model_command(clock->number);
+#endif
+	tkc_page_publish_clock(&page, clock);
+}
+
+static void take_over_page(int writer, struct tkc_clock *clock)
+{
+	clock->number = 0;
+	if (!writer)
+		return;
+	if (tkc_page_clock(&page, clock))
+		fail("the clocks of a writer that died can't be rebuilt");
+	tkc_page_recover(&page, clock);
+}
+
+static void write_page(int writer)
+{
+	struct tkc_clock clock;
+
+	take_over_page(writer, &clock);
+	command_page(&clock, 1);
+}
+
+static void write_without_begin(int writer)
+{
+	struct tkc_clock clock;
+
+	take_over_page(writer, &clock);
+	command_page(&clock, 0);
+	tkc_page_publish_clock(&page, &clock);
+}
+
+static void write_new_page(int writer)
+{
+	struct tkc_clock clock = { 0 };
+
+	if (writer && !tkc_page_attach(&page))
+		take_over_page(writer, &clock);
+	else
+		tkc_page_init_clock(&page, &clock);
+	command_page(&clock, 1);
+}
+
+/* The clocks of a new writer are those that the page has, on which a writer publishes first. */
+static void write_latch(int writer)
+{
+	struct tkc_clock clock = { 0 };
+	struct tkc_snapshot snapshot;
+
+	for (uint32_t i = 1; i <= (uint32_t)writer; i++)
+		if (now->fronts[i] > now->fronts[clock.number])
+			clock.number = i;
+	if (writer)
+		tkc_latch_recover(&latch, &clock);
+	clock.number = model_command(clock.number);
+	tkc_clock_snapshot(&snapshot, &clock);
+	tkc_latch_publish(&latch, &snapshot);
+}
+
+static int try_page(tkc_read_counter *read_counter, uint32_t *number, uint64_t *reading)
+{
+	struct tkc_snapshot snapshot;
+	uint64_t words[TKC_LATCH_WORDS];
+
+	if (!tkc_page_try(&page, read_counter, NULL, words, reading) ||
+	    tkc_words_checked(&snapshot, words))
+		return 0;
+	*number = snapshot.number;
+	return 1;
+}
+
+static int read_page(uint32_t *number, uint64_t *reading)
+{
+	return try_page(model_counter, number, reading);
+}
+
+static int read_without_counter(uint32_t *number, uint64_t *reading)
+{
+	return try_page(tkc_no_reading, number, reading);
+}
+
+static int read_new_page(uint32_t *number, uint64_t *reading)
+{
+	return !tkc_page_attach(&page) && read_page(number, reading);
+}
+
+static int rebuild(uint32_t *number, uint64_t *reading)
+{
+	struct tkc_clock clock;
+
+	*reading = 0;
+	if (tkc_page_clock(&page, &clock))
+		return 0;
+	*number = clock.number;
+	return 1;
+}
+
+static int read_latch(uint32_t *number, uint64_t *reading)
+{
+	struct tkc_snapshot snapshot;
+	uint64_t words[TKC_LATCH_WORDS];
+
+	if (!tkc_latch_try(&latch, model_counter, NULL, words, reading) ||
+	    tkc_words_checked(&snapshot, words))
+		return 0;
+	*number = snapshot.number;
+	return 1;
+}
+
+const struct scene scenes[SCENES] = {
+	{ "a page", write_page, read_page, 0, 1, 0 },
+	{ "a page without tkc_page_begin", write_without_begin, read_without_counter, 0, 0,
+	  0 },
+	{ "a page that is made", write_new_page, read_new_page, 0, 1, 1 },
+	{ "clocks of a page that moves", write_page, rebuild, 0, 0, 0 },
+	{ "a latch", write_latch, read_latch, 1, 0, 0 },
+};
