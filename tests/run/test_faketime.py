@@ -2,7 +2,7 @@
 in programs and in constructors of libraries, and the dates of each power of two.
 
 The source is that of Debian's faketime: FAKETIME_SOURCE, or a folder /usr/src/faketime-*, which
-`apt-get source faketime` makes. What isn't tested is what tkrun doesn't do: other random numbers and
+`tools/packages --install check_run` makes. What isn't tested is what tkrun doesn't do: other random numbers and
 process numbers, times of files, times that the environment changes from one program to the next, and
 a REALTIME that stands still while MONOTONIC goes on.
 """
@@ -21,7 +21,7 @@ READS = ["time", "clock_gettime", "clock_gettime_heap", "syscall_clock_gettime",
          "syscall_clock_gettime_heap"]
 
 
-@unittest.skipUnless(SOURCE.exists(), "there is no source of faketime, by `apt-get source faketime`")
+@unittest.skipUnless(SOURCE.exists(), "source:faketime isn't installed")
 class Faketime(RunTest):
     def compiled(self, name, text, *options):
         """Compiles a program or a library of the source's text."""

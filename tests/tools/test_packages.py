@@ -89,6 +89,25 @@ class Packages(Case):
         self.assertEqual([["update"], ["install", "tool", "files"], ["install", "tool"],
                           ["install", "files"]], self.asked())
 
+    def test_a_source_is_unpacked_by_the_systems_own_list(self):
+        text = f"two source:named {self.room}/named-* a part\ntwo tool a-tool a part\n"
+        (self.top / "tools/packages.txt").write_text(text, encoding="utf-8")
+        self.apt(f'case " $* " in\n*" source "*) mkdir {self.room}/named-1 ;;\n'
+                 f"*) ln -sf /bin/true {self.first}/a-tool ;;\nesac")
+        self.assertEqual((0, "tools/packages: installing source:named tool\n", ""),
+                         self.run_packages("--install", "two"))
+        self.assertEqual([["update"], ["install", "tool"], ["update"], ["source", "named"]],
+                         [[it for it in call if it[0] != "/"] for call in self.asked()])
+
+    def test_a_source_that_cannot_be_unpacked_is_named(self):
+        text = f"two source:named {self.room}/named-* a part\n"
+        (self.top / "tools/packages.txt").write_text(text, encoding="utf-8")
+        self.apt('case " $* " in\n*" source "*) echo "E: no source"\nexit 100 ;;\nesac')
+        self.assertEqual((1, "tools/packages: installing source:named\n"
+                             "tools/packages: source:named can't be installed:\nE: no source\n"
+                             "two: not installed: source:named\n", ""),
+                         self.run_packages("--install", "two"))
+
     def test_a_failure_of_apt_get_is_told_in_its_own_words(self):
         self.apt("echo 'E: Permission denied'\nexit 100")
         status, said, errors = self.run_packages("--install", "two")

@@ -4,11 +4,15 @@ import functools
 import glob
 import os
 import pathlib
+import re
 import shutil
 import subprocess
+import tempfile
 
 LIST = pathlib.Path(__file__).resolve().parents[1] / "packages.txt"
 INSTALL = ["install", "-y", "-q", "--no-install-recommends", "-o", "DPkg::Lock::Timeout=600"]
+APT = pathlib.Path("/etc/apt")
+SOURCE, SOURCES = "source:", "/usr/src"  # how the list names a source, and where it is unpacked
 
 
 @dataclasses.dataclass(frozen=True)
@@ -84,11 +88,11 @@ def named_in(check, reason):
     return [listed[it] for it in names] if set(names) <= set(listed) else []
 
 
-def apt_get(*words):
-    """Runs apt-get. Returns its status and the last lines that it printed."""
+def apt_get(*words, folder=None):
+    """Runs apt-get in a folder. Returns its status and the last lines that it printed."""
     try:
         ran = subprocess.run(["apt-get", *words], check=False, text=True, errors="replace",
-                             env={**os.environ, "DEBIAN_FRONTEND": "noninteractive"},
+                             env={**os.environ, "DEBIAN_FRONTEND": "noninteractive"}, cwd=folder,
                              stdin=subprocess.DEVNULL, stdout=subprocess.PIPE,
                              stderr=subprocess.STDOUT)
     except FileNotFoundError:
@@ -101,9 +105,32 @@ def install(names):
     status, said = apt_get("update", "-q")
     if status:
         yield f"apt-get update failed:\n{said}"
-    if not apt_get(*INSTALL, *names)[0]:
-        return
-    for name in names:
-        status, said = apt_get(*INSTALL, name)
-        if status:
-            yield f"{name} can't be installed:\n{said}"
+    sources = [it for it in names if it.startswith(SOURCE)]
+    binaries = [it for it in names if it not in sources]
+    if binaries and apt_get(*INSTALL, *binaries)[0]:
+        yield from failures([(name, *apt_get(*INSTALL, name)) for name in binaries])
+    if sources:
+        with tempfile.TemporaryDirectory() as room:
+            options = source_options(pathlib.Path(room))
+            apt_get(*options, "update", "-q")
+            yield from failures([(name, *apt_get(*options, "source", "-q", name[len(SOURCE):],
+                                                 folder=SOURCES)) for name in sources])
+
+
+def failures(results):
+    """Yields a sentence for each of these results of apt-get that is a failure."""
+    yield from (f"{name} can't be installed:\n{said}" for name, status, said in results if status)
+
+
+def source_options(room):
+    """Returns the options with which apt-get knows Debian's sources, by the system's own list."""
+    stanzas = [it for path in sorted(APT.glob("sources.list.d/*.sources"))
+               for it in path.read_text(encoding="utf-8").split("\n\n") if "debian-archive" in it]
+    listed = room / "debian.sources"
+    listed.write_text("\n\n".join(re.sub("(?m)^Types:.*", "Types: deb-src", it)
+                                  for it in stanzas), encoding="utf-8")
+    (room / "lists" / "partial").mkdir(parents=True)
+    room.chmod(0o755)
+    return ["-o", f"Dir::Etc::sourcelist={listed}", "-o", "Dir::Etc::sourceparts=/dev/null",
+            "-o", f"Dir::State::lists={room / 'lists'}", "-o", "Dir::Cache::srcpkgcache=",
+            "-o", "Dir::Cache::pkgcache="]
