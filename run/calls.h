@@ -7,7 +7,7 @@
 #define CALLS_H
 
 #include "log.h"
-#include "machine.h"
+#include "waiters.h"
 
 #include <errno.h>
 

@@ -1,7 +1,7 @@
 /* SPDX-License-Identifier: MIT OR Apache-2.0 */
 /* How a process commands the clocks, and publishes them. */
 #define _GNU_SOURCE
-#include "machine.h"
+#include "waiters.h"
 
 #include "requests.h"
 #include "rows.h"

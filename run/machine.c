@@ -1,6 +1,7 @@
 /* SPDX-License-Identifier: MIT OR Apache-2.0 */
 #define _GNU_SOURCE
 #include "counter.h"
+#include "waiters.h"
 
 #include <fcntl.h>
 #include <stdio.h>

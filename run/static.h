@@ -8,7 +8,7 @@
 #ifndef STATIC_H
 #define STATIC_H
 
-#include "machine.h"
+#include "waiters.h"
 
 #include <linux/seccomp.h>
 

@@ -3,7 +3,7 @@
 #ifndef TREE_H
 #define TREE_H
 
-#include "machine.h"
+#include "waiters.h"
 
 /* A thread, when it was looked at. `switches` counts how often it has left a
  * processor. */

@@ -1,7 +1,7 @@
 /* SPDX-License-Identifier: MIT OR Apache-2.0 */
 /* The list of the threads that wait, and how they are woken. */
 #define _GNU_SOURCE
-#include "machine.h"
+#include "waiters.h"
 
 #include <sys/stat.h>
 #include <unistd.h>

@@ -1,7 +1,7 @@
 /* SPDX-License-Identifier: MIT OR Apache-2.0 */
 /* Until when a thread waits for a time of a clock. */
 #define _GNU_SOURCE
-#include "machine.h"
+#include "waiters.h"
 
 #include <errno.h>
 #include <sys/syscall.h>
