@@ -51,6 +51,12 @@ class Spans(RunTest):
         for millis in (1500, 250, 1050):
             self.check_spans("locks", millis)
 
+    def test_waits_that_last_longer_than_a_slice(self):
+        # 15 s of the host; a wait of a condition variable is one call, and isn't divided
+        lines = parse(self.run_on("--speed", 0.1, "--", program("locks"), 1500))
+        self.assertEqual({line[1] for line in lines}, {"0"})
+        self.assertGreaterEqual(min(int(line[2]) for line in lines), 1500 * MILLI)
+
     def test_interrupted_spans(self):
         # on a busy machine, the signal mustn't come after the span
         self.check_spans("spans", 40_750, "after", 250)
