@@ -27,7 +27,6 @@ enum {
 	TAKEOVER = 1 + TKC_PAGE_WORDS + 1 + TKC_LATCH_WORDS + LATCH,
 	BEFORE_PUBLISHED = 1 + TKC_PAGE_WORDS + 1,
 	PAIRS = (COMMAND + 1) * TAKEOVER,
-	FRONTS = PAIRS + 2,
 	READERS = 3, /* the last one reads the latch, the others the page */
 	NAPS = 16, /* reads between two naps of a reader */
 	MOVES = 3, /* commands amid a read */
@@ -44,7 +43,6 @@ static const char *language;
 static deaths_act_call *act;
 static deaths_read_call *read_once;
 static struct shared *shared;
-static uint64_t words_of[FRONTS][TKC_LATCH_WORDS]; /* by the front */
 
 static int is_sequence[ACCESSES], access_count, move_at, die_at;
 static uint64_t move_commands;
@@ -54,27 +52,6 @@ void fail(const char *what)
 {
 	fprintf(stderr, "deaths: %s: %s\n", language, what);
 	_exit(EXIT_FAILURE);
-}
-
-static void note_all(void)
-{
-	uint64_t words[TKC_SAVED_WORDS];
-	struct tkc_clock clock;
-
-	open_clocks(&clock);
-	for (int front = 0; front < FRONTS; front++) {
-		tkc_clock_save(words, &clock);
-		memcpy(words_of[front], words, sizeof(words_of[front]));
-		command(&clock);
-	}
-}
-
-/* Returns the front of the words, which must be those of one publication. */
-static uint64_t front_of(const uint64_t *words)
-{
-	if (words[0] >= FRONTS || memcmp(words, words_of[words[0]], sizeof(words_of[0])))
-		fail("a mixture of two snapshots");
-	return words[0];
 }
 
 static void only_count(int number, size_t place)

@@ -37,7 +37,7 @@ void deaths_run(const char *language, deaths_act_call *act, deaths_read_call *re
 
 /* What the files of the test share. */
 
-enum { DEATHS_SIZE = 4096, COUNTERS = 2 };
+enum { DEATHS_SIZE = 4096, COUNTERS = 2, FRONTS = 3000 /* more than are published */ };
 
 _Noreturn void fail(const char *what);
 
@@ -45,6 +45,10 @@ _Noreturn void fail(const char *what);
 void act_in_c(void *memory, uint64_t act, uint64_t count);
 void open_clocks(struct tkc_clock *clock);
 void command(struct tkc_clock *clock);
+
+/* Notes the words of each front. `front_of` returns the front of words, which must be noted. */
+void note_all(void);
+uint64_t front_of(const uint64_t *words);
 
 /* Maps the memory twice: where accesses can be stopped, and where they can't. */
 void map_memory(void);

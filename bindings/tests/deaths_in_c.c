@@ -2,6 +2,10 @@
 /* The acts of deaths.h by the calls of tkcore_page.h itself. */
 #include "deaths.h"
 
+#include <string.h>
+
+static uint64_t words_of[FRONTS][TKC_LATCH_WORDS]; /* by the front */
+
 static const uint32_t numbers[COUNTERS][3] = { { 64, 1 << 23, 23 }, { 64, 1 << 24, 23 } };
 
 static struct tkc_counter counter(uint64_t which)
@@ -81,4 +85,24 @@ void act_in_c(void *at, uint64_t act, uint64_t count)
 		tkc_page_init_clock(page, &clock);
 	if (act == DEATHS_CREATE || act == DEATHS_CREATE_SNAPSHOT)
 		tkc_latch_init(latch, &snapshot);
+}
+
+void note_all(void)
+{
+	uint64_t words[TKC_SAVED_WORDS];
+	struct tkc_clock clock;
+
+	open_clocks(&clock);
+	for (int front = 0; front < FRONTS; front++) {
+		tkc_clock_save(words, &clock);
+		memcpy(words_of[front], words, sizeof(words_of[front]));
+		command(&clock);
+	}
+}
+
+uint64_t front_of(const uint64_t *words)
+{
+	if (words[0] >= FRONTS || memcmp(words, words_of[words[0]], sizeof(words_of[0])))
+		fail("a mixture of two snapshots");
+	return words[0];
 }

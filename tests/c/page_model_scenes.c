@@ -54,20 +54,40 @@ static void write_new_page(int writer)
 	command_page(&clock, 1);
 }
 
+static void command_latch(struct tkc_clock *clock)
+{
+	struct tkc_snapshot snapshot;
+
+	clock->number = model_command(clock->number);
+	tkc_clock_snapshot(&snapshot, clock);
+	tkc_latch_publish(&latch, &snapshot);
+}
+
 /* The clocks of a new writer are those that the page has, on which a writer publishes first. */
 static void write_latch(int writer)
 {
 	struct tkc_clock clock = { 0 };
-	struct tkc_snapshot snapshot;
 
 	for (uint32_t i = 1; i <= (uint32_t)writer; i++)
 		if (now->fronts[i] > now->fronts[clock.number])
 			clock.number = i;
 	if (writer)
 		tkc_latch_recover(&latch, &clock);
-	clock.number = model_command(clock.number);
+	command_latch(&clock);
+}
+
+static void write_new_latch(int writer)
+{
+	struct tkc_clock clock = { 0 };
+	struct tkc_snapshot snapshot;
+
+	if (writer && !tkc_latch_attach(&latch)) {
+		write_latch(writer);
+		return;
+	}
 	tkc_clock_snapshot(&snapshot, &clock);
-	tkc_latch_publish(&latch, &snapshot);
+	tkc_latch_init(&latch, &snapshot);
+	command_latch(&clock);
 }
 
 static int try_page(tkc_read_counter *read_counter, uint32_t *number, uint64_t *reading)
@@ -120,6 +140,11 @@ static int read_latch(uint32_t *number, uint64_t *reading)
 	return 1;
 }
 
+static int read_new_latch(uint32_t *number, uint64_t *reading)
+{
+	return !tkc_latch_attach(&latch) && read_latch(number, reading);
+}
+
 const struct scene scenes[SCENES] = {
 	{ "a page", write_page, read_page, 0, 1, 0 },
 	{ "a page without tkc_page_begin", write_without_begin, read_without_counter, 0, 0,
@@ -127,4 +152,5 @@ const struct scene scenes[SCENES] = {
 	{ "a page that is made", write_new_page, read_new_page, 0, 1, 1 },
 	{ "clocks of a page that moves", write_page, rebuild, 0, 0, 0 },
 	{ "a latch", write_latch, read_latch, 1, 0, 0 },
+	{ "a latch that is made", write_new_latch, read_new_latch, 1, 0, 1 },
 };

@@ -19,7 +19,7 @@ enum {
 	STORES = 16, /* to one word */
 	STEPS = 150, /* of a writer */
 	LAYOUT = 255, /* stands for the number of a layout */
-	SCENES = 5,
+	SCENES = 6,
 };
 
 enum progress { WAITS, RUNS, ENDED };
