@@ -136,27 +136,45 @@ static void set_overruns(const struct timer *timer, uint64_t count)
 	REAL(timer_settime)(timer->posix, TIMER_ABSTIME, &host, NULL);
 }
 
-/* Returns whether another timer has the same signal: then nothing says whose is pending. */
-static bool shares_signal(const struct timer *timer)
+static bool has_same_signal(const struct timer *timer, const struct timer *other)
+{
+	return other->kind == TIMER_POSIX && other->signal == timer->signal &&
+	       other->thread == timer->thread;
+}
+
+/* Returns whether the pending signal of a timer is its own. If another timer that has the
+ * same signal has expired too, nothing says whose it is. */
+static bool is_own_signal(const struct timer *timer)
 {
 	for (const struct timer *other = timers_all(); other;
 	     other = other->link) {
-		if (other != timer && other->kind == TIMER_POSIX &&
-		    other->signal == timer->signal &&
-		    other->thread == timer->thread)
-			return true;
+		if (other != timer && has_same_signal(timer, other) &&
+		    other->has_expired)
+			return false;
 	}
-	return false;
+	return timer->has_expired;
+}
+
+/* Notes that the signal of a timer isn't pending, so no timer that has it has expired. */
+static void note_delivery(const struct timer *timer)
+{
+	for (struct timer *other = timers_all(); other; other = other->link) {
+		if (has_same_signal(timer, other))
+			other->has_expired = false;
+	}
 }
 
 /* Lets a timer with a number expire. Its expiries before its signal is delivered are
  * overruns. */
 static void expire_posix(struct timer *timer, uint64_t count)
 {
-	if (is_pending(timer) && !shares_signal(timer))
+	if (!is_pending(timer))
+		note_delivery(timer);
+	if (is_own_signal(timer))
 		timer->overruns += count;
 	else
 		timer->overruns = count - 1;
+	timer->has_expired = true;
 	if (timer->overruns)
 		set_overruns(timer, timer->overruns);
 	else

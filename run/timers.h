@@ -26,6 +26,7 @@ struct timer {
 	timer_t posix;
 	int signal, thread; /* of a timer with a number; 0: no signal, the process */
 	uint64_t overruns;  /* since its last signal */
+	bool has_expired;   /* since this signal was last not pending */
 	struct timespec next;
 	uint64_t period; /* ns; 0: it expires once */
 	struct ticket ticket;

@@ -2,7 +2,8 @@
 /*
  * Lets a timer with a period of 0.25 s expire while its signal is blocked, and prints the
  * overruns: those that the handler gets, and those of timer_getoverrun. A process gets the
- * signals of the first timer, and a thread those of the second one.
+ * signals of the first timer, and a thread those of the second one. Another timer has the same
+ * signal, and doesn't expire.
  */
 #define _GNU_SOURCE
 #include <signal.h>
@@ -18,6 +19,7 @@
 #endif
 
 static const struct itimerspec PERIOD = { { 0, 250000000 }, { 0, 250000000 } };
+static const struct itimerspec LATER = { { 0, 0 }, { 3600, 0 } };
 static volatile sig_atomic_t signals, overruns;
 
 static void count(int number, siginfo_t *info, void *context)
@@ -48,7 +50,7 @@ static void print_timer(int notify)
 {
 	struct sigevent event = { .sigev_notify = notify,
 				  .sigev_signo = SIGUSR1 };
-	timer_t timer;
+	timer_t timer, other;
 	sigset_t set;
 
 	event.sigev_notify_thread_id = (int)syscall(SYS_gettid);
@@ -56,7 +58,9 @@ static void print_timer(int notify)
 	sigaddset(&set, SIGUSR1);
 	sigprocmask(SIG_BLOCK, &set, NULL);
 	signals = overruns = 0;
-	if (timer_create(CLOCK_MONOTONIC, &event, &timer) ||
+	if (timer_create(CLOCK_MONOTONIC, &event, &other) ||
+	    timer_settime(other, 0, &LATER, NULL) ||
+	    timer_create(CLOCK_MONOTONIC, &event, &timer) ||
 	    timer_settime(timer, 0, &PERIOD, NULL))
 		perror("overruns");
 	nap(1100);
@@ -69,6 +73,7 @@ static void print_timer(int notify)
 	nap(700);
 	print_next(timer, &set);
 	timer_delete(timer);
+	timer_delete(other);
 }
 
 int main(void)
