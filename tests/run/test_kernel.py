@@ -110,7 +110,7 @@ class Kernel(RunTest):
         self.assertIn("[OK]", self.selftest("skew_consistency", options=["--speed", 100]))
 
     def test_a_step_of_the_frequency(self):
-        self.assertIn("[OK]", self.selftest("freq-step", options=["--speed", 10]))
+        self.assertIn("[OK]", self.selftest("freq-step", options=["--speed", 3]))
 
     def test_a_timer_of_posix_timers(self):
         # its other timers are of processor time, which a busy machine has too little of
