@@ -1,7 +1,7 @@
 /* SPDX-License-Identifier: MIT OR Apache-2.0 */
 /*
  * Nagle's algorithm lets bytes wait for the receiver's answer, which the host delays by
- * up to 40 ms of its own time. A counter of sleeps would move on meanwhile, since all
+ * up to 40 ms of the host's time. A counter of sleeps would move on meanwhile, since all
  * threads wait. So with such a counter each socket of TCP sends at once, and a program
  * that asks for TCP_NODELAY gets what it has set.
  */

@@ -268,7 +268,7 @@ uint64_t machine_left(struct machine *machine, uint32_t clock, int64_t sec,
 int machine_sleep(struct machine *machine, uint32_t clock, int64_t sec,
 		  uint32_t nsec);
 
-/* Notes that this thread has looked at the clocks, or has waited for nothing, so often. With
+/* Notes how often this thread has looked at the clocks, or has waited for nothing. With
  * COUNTER_SLEEPS, a thousand looks at a counter that doesn't move take 1 us: a thread that
  * waits in a loop would never see it move. */
 void machine_looked(struct machine *machine, uint32_t count);

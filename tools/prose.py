@@ -1,7 +1,7 @@
 """The lengths of lines and sentences on the pages, as tools/check_docs compares them."""
 import re
 
-# the pages whose sentences have at most so many words
+# the most words of a sentence on these pages
 SHORT = {"docs/PROMISES.md": 30, "docs/DECISIONS.md": 30, "docs/NTP.md": 30}
 ITEM = re.compile(r"(?:[-*]|\d+\.) +")  # the mark of an item of a list
 END = re.compile(r"(?<=[.?!])[*)\"]*\s+(?=[A-Z0-9*\[(\"])")  # between two sentences

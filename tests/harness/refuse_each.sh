@@ -111,7 +111,7 @@ done
 
 printf '%s\n' open,32,16777216,24,0,1700000000,0 tai,0,37 freq,0,65536000 get,9,tai update,9 >4.csv
 seq 0 99 | sed 's/.*/1,&\n3,&/' >short
-# so many stamps that threads convert them
+# enough stamps for several threads
 seq 0 999999 | sed 's/.*/2,&/' >long
 each_request "$memory" /dev/null trace tai 4.csv short
 each_request "$memory" /dev/null trace realtime 3.csv short

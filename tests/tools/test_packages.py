@@ -92,12 +92,17 @@ class Packages(Case):
     def test_a_source_is_unpacked_by_the_systems_own_list(self):
         text = f"two source:named {self.room}/named-* a part\ntwo tool a-tool a part\n"
         (self.top / "tools/packages.txt").write_text(text, encoding="utf-8")
-        self.apt(f'case " $* " in\n*" source "*) mkdir {self.room}/named-1 ;;\n'
+        self.apt(f'for word; do case $word in Dir::Etc::sourcelist=*)\n'
+                 f'cat "${{word#*=}}" >>{self.room}/listed ;; esac; done\n'
+                 f'case " $* " in\n*" source "*) mkdir {self.room}/named-1 ;;\n'
                  f"*) ln -sf /bin/true {self.first}/a-tool ;;\nesac")
         self.assertEqual((0, "tools/packages: installing source:named tool\n", ""),
                          self.run_packages("--install", "two"))
         self.assertEqual([["update"], ["install", "tool"], ["update"], ["source", "named"]],
                          [[it for it in call if it[0] != "/"] for call in self.asked()])
+        types = [it for it in (self.room / "listed").read_text(encoding="utf-8").splitlines()
+                 if it.startswith("Types:")]
+        self.assertLessEqual(set(types), {"Types: deb-src"})
 
     def test_a_source_that_cannot_be_unpacked_is_named(self):
         text = f"two source:named {self.room}/named-* a part\n"
