@@ -1,0 +1,110 @@
+/* SPDX-License-Identifier: MIT OR Apache-2.0 */
+/*
+ * calls_stamp.c - the stamps of packets. The kernel stamps packets with the host's REALTIME.
+ * Without --stamps the library refuses stamps, so that no program mixes two clocks. With --stamps
+ * it converts them: a packet is as old on the clocks as it is on the host.
+ */
+#define _GNU_SOURCE
+#include "calls_socket.h"
+
+#include <netinet/in.h>
+#include <netinet/tcp.h>
+#include <string.h>
+#include <sys/socket.h>
+#include <sys/time.h>
+
+EXPORT int setsockopt(int file, int level, int name, const void *value,
+		      socklen_t length)
+{
+	struct machine *m = machine();
+
+	if (level == IPPROTO_TCP && name == TCP_NODELAY)
+		return set_no_delay(m, file, value, length);
+	if (!m || level != SOL_SOCKET)
+		return REAL(setsockopt)(file, level, name, value, length);
+	switch (name) {
+	case SO_TIMESTAMP_OLD:
+	case SO_TIMESTAMPNS_OLD:
+		if (m->shared->has_stamps)
+			break;
+		return refuse(ENOPROTOOPT);
+	case SO_TIMESTAMP_NEW:
+	case SO_TIMESTAMPNS_NEW:
+	case SO_TIMESTAMPING_OLD:
+	case SO_TIMESTAMPING_NEW:
+		return refuse(ENOPROTOOPT);
+	case SO_RCVTIMEO_OLD:
+	case SO_SNDTIMEO_OLD:
+		note_host(m, HOST_SOCKET);
+	}
+	return REAL(setsockopt)(file, level, name, value, length);
+}
+
+/* Returns the clocks' REALTIME as long ago as a time of the host's was. */
+static struct timespec convert(struct machine *m, const struct timespec *stamp)
+{
+	int64_t age = (int64_t)host_nanos(CLOCK_REALTIME) -
+		      (stamp->tv_sec * NANOS + stamp->tv_nsec);
+	struct tkc_time now;
+	int64_t nanos;
+
+	if (machine_read(m, TKC_CLOCK_REALTIME, &now))
+		return *stamp;
+	nanos = now.sec * NANOS + now.nsec -
+		(int64_t)((double)age * m->shared->speed);
+	return (struct timespec){ nanos / NANOS, nanos % NANOS };
+}
+
+static void convert_part(struct machine *m, struct cmsghdr *part)
+{
+	struct timespec stamp;
+	struct timeval micros;
+
+	if (part->cmsg_level != SOL_SOCKET)
+		return;
+	if (part->cmsg_type == SO_TIMESTAMPNS_OLD) {
+		memcpy(&stamp, CMSG_DATA(part), sizeof(stamp));
+		stamp = convert(m, &stamp);
+		memcpy(CMSG_DATA(part), &stamp, sizeof(stamp));
+	} else if (part->cmsg_type == SO_TIMESTAMP_OLD) {
+		memcpy(&micros, CMSG_DATA(part), sizeof(micros));
+		stamp = (struct timespec){ micros.tv_sec,
+					   micros.tv_usec * 1000 };
+		stamp = convert(m, &stamp);
+		micros = (struct timeval){ stamp.tv_sec, stamp.tv_nsec / 1000 };
+		memcpy(CMSG_DATA(part), &micros, sizeof(micros));
+	}
+}
+
+static void convert_all(struct msghdr *message)
+{
+	struct machine *m = machine();
+	struct cmsghdr *part;
+
+	if (!m || !m->shared->has_stamps || !message->msg_control)
+		return;
+	for (part = CMSG_FIRSTHDR(message); part;
+	     part = CMSG_NXTHDR(message, part))
+		convert_part(m, part);
+}
+
+EXPORT ssize_t recvmsg(int file, struct msghdr *message, int flags)
+{
+	ssize_t length = REAL(recvmsg)(file, message, flags);
+
+	if (length >= 0)
+		convert_all(message);
+	return length;
+}
+
+EXPORT int recvmmsg(int file, struct mmsghdr *messages, unsigned int count,
+		    int flags, struct timespec *span)
+{
+	int received = REAL(recvmmsg)(file, messages, count, flags, span);
+
+	if (machine() && span)
+		note_host(machine(), HOST_MESSAGES);
+	for (int i = 0; i < received; i++)
+		convert_all(&messages[i].msg_hdr);
+	return received;
+}
