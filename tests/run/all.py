@@ -2,9 +2,9 @@
 
     all.py [--all] [MODULE..]
 
-Without a module, it runs the quick ones, and with --all those of servers too. The test of chronyd,
-which waits for a minute, and the suites of others run next to the rest. No test is run twice: each
-holds on a busy machine too.
+Without a module, it runs the quick ones, and with --all those of servers and 2,000 kills too. The
+test of chronyd, which waits for a minute, and the suites of others run next to the rest. No test is
+run twice: each holds on a busy machine too.
 """
 import pathlib
 import subprocess
@@ -13,7 +13,7 @@ import unittest
 
 FOLDER = pathlib.Path(__file__).parent
 BESIDE = [["test_chrony"], ["test_kernel", "test_python", "test_faketime"]]
-SERVERS = ["test_postgresql", "test_redis", "test_nginx"]
+LONG = ["test_postgresql", "test_redis", "test_nginx", "test_many_kills"]
 
 
 def run(names):
@@ -34,8 +34,8 @@ def start(names):
 def main(names, are_all):
     if names:
         return run(names)
-    groups = [start(names) for names in BESIDE + [SERVERS] * are_all]
-    besides = sum(BESIDE, SERVERS)
+    groups = [start(names) for names in BESIDE + [LONG] * are_all]
+    besides = sum(BESIDE, LONG)
     rest = sorted(path.stem for path in FOLDER.glob("test_*.py") if path.stem not in besides)
     is_well = run(rest)
     for group in groups:

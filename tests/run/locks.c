@@ -1,29 +1,13 @@
 /* SPDX-License-Identifier: MIT OR Apache-2.0 */
 /*
- * Waits for locks, condition variables, threads and futexes for a span, and prints what
+ * Waits for locks, condition variables and threads for a span, and prints what
  * spans.c prints. A wait for a condition variable is made by one call.
  */
 #define _GNU_SOURCE
-#include "spans.h"
+#include "holder.h"
 
-#include <linux/futex.h>
-#include <pthread.h>
 #include <semaphore.h>
-#include <sys/syscall.h>
 #include <threads.h>
-
-#ifndef FUTEX_LOCK_PI2
-#define FUTEX_LOCK_PI2 13
-#endif
-#ifndef SYS_futex_waitv
-#define SYS_futex_waitv 449
-#endif
-
-/* Returns 0 for the error that says that the time has come. */
-static int at_time(int error)
-{
-	return error == ETIMEDOUT ? 0 : error ? error : EPROTO;
-}
 
 static int by_sem_timedwait(int64_t span, int64_t *left)
 {
@@ -126,39 +110,6 @@ static int by_mtx_timedlock(int64_t span, int64_t *left)
 	return mtx_timedlock(&taken, &time) == thrd_timedout ? 0 : EPROTO;
 }
 
-/* What another thread holds. */
-static pthread_mutex_t inheriting;
-static pthread_rwlock_t rwlock = PTHREAD_RWLOCK_INITIALIZER;
-static uint32_t word;
-
-static void *hold(void *unused)
-{
-	pthread_mutex_lock(&inheriting);
-	pthread_rwlock_wrlock(&rwlock);
-	syscall(SYS_futex, &word, FUTEX_LOCK_PI, 0, NULL, NULL, 0);
-	pause();
-	return unused;
-}
-
-/* Starts a thread that holds all of these. Signals are the main thread's. */
-static pthread_t start_holder(void)
-{
-	pthread_mutexattr_t attributes;
-	sigset_t all, saved;
-	pthread_t thread;
-
-	pthread_mutexattr_init(&attributes);
-	pthread_mutexattr_setprotocol(&attributes, PTHREAD_PRIO_INHERIT);
-	pthread_mutex_init(&inheriting, &attributes);
-	sigfillset(&all);
-	pthread_sigmask(SIG_SETMASK, &all, &saved);
-	pthread_create(&thread, NULL, hold, NULL);
-	pthread_sigmask(SIG_SETMASK, &saved, NULL);
-	while (!__atomic_load_n(&word, __ATOMIC_ACQUIRE))
-		sched_yield();
-	return thread;
-}
-
 static int by_inheriting_mutex(int64_t span, int64_t *left)
 {
 	struct timespec time;
@@ -227,64 +178,6 @@ static int by_clockjoin(int64_t span, int64_t *left)
 					    &time));
 }
 
-static int wait_futex(int operation, const struct timespec *time)
-{
-	return error_of((int)syscall(SYS_futex, &word, operation, 0, time, NULL,
-				     FUTEX_BITSET_MATCH_ANY),
-			ETIMEDOUT);
-}
-
-static int by_futex(int64_t span, int64_t *left)
-{
-	struct timespec time = span_of(span);
-
-	(void)left;
-	return wait_futex(FUTEX_WAIT_PRIVATE, &time);
-}
-
-static int by_futex_bitset(int64_t span, int64_t *left)
-{
-	struct timespec time = after(CLOCK_REALTIME, span);
-
-	(void)left;
-	return wait_futex(FUTEX_WAIT_BITSET | FUTEX_CLOCK_REALTIME, &time);
-}
-
-/* The kernel restarts this call after a signal. */
-static int by_futex_lock_pi(int64_t span, int64_t *left)
-{
-	struct timespec time;
-
-	(void)left;
-	start_holder();
-	time = after(CLOCK_REALTIME, span);
-	return wait_futex(FUTEX_LOCK_PI, &time);
-}
-
-static int by_futex_lock_pi2(int64_t span, int64_t *left)
-{
-	struct timespec time;
-
-	(void)left;
-	start_holder();
-	time = after(CLOCK_MONOTONIC, span);
-	return wait_futex(FUTEX_LOCK_PI2, &time);
-}
-
-static int by_futex_waitv(int64_t span, int64_t *left)
-{
-	struct timespec time = after(CLOCK_MONOTONIC, span);
-	struct {
-		uint64_t value, address;
-		uint32_t flags, reserved;
-	} one = { 0, (uintptr_t)&word, 2 /* 32 bits */, 0 };
-
-	(void)left;
-	return error_of((int)syscall(SYS_futex_waitv, &one, 1, 0, &time,
-				     CLOCK_MONOTONIC),
-			ETIMEDOUT);
-}
-
 static const struct span_wait WAITS[] = {
 	{ "sem_timedwait", by_sem_timedwait },
 	{ "sem_clockwait", by_sem_clockwait },
@@ -302,11 +195,6 @@ static const struct span_wait WAITS[] = {
 	{ "clockwrlock", by_clockwrlock },
 	{ "timedjoin", by_timedjoin },
 	{ "clockjoin", by_clockjoin },
-	{ "futex", by_futex },
-	{ "futex_bitset", by_futex_bitset },
-	{ "futex_lock_pi", by_futex_lock_pi },
-	{ "futex_lock_pi2", by_futex_lock_pi2 },
-	{ "futex_waitv", by_futex_waitv },
 };
 
 int main(int count, char **words)

@@ -4,6 +4,9 @@
  * sleeps: each wait takes its span and a cycle of 1 ns.
  *
  *     pollers poll | select | epoll | sem | cond | sleep COUNT threads | processes
+ *     pollers timerfd | timer | itimer | alarm COUNT processes
+ *
+ * The spans of alarm are 1 to 97 s.
  */
 #define _GNU_SOURCE
 #include "spans.h"
@@ -14,6 +17,8 @@
 #include <sys/epoll.h>
 #include <sys/mman.h>
 #include <sys/select.h>
+#include <sys/time.h>
+#include <sys/timerfd.h>
 
 enum { SPANS = 97 };
 
@@ -39,6 +44,48 @@ static bool wait_for_lock(int64_t span)
 	return error == ETIMEDOUT;
 }
 
+static bool wait_for_file(const struct itimerspec *spec)
+{
+	int file = timerfd_create(CLOCK_MONOTONIC, 0);
+	uint64_t count;
+
+	return !timerfd_settime(file, 0, spec, NULL) &&
+	       read(file, &count, sizeof(count)) == sizeof(count) && count == 1;
+}
+
+static bool set_timer(const struct itimerspec *spec)
+{
+	struct itimerval micros = { .it_value = { spec->it_value.tv_sec,
+						  spec->it_value.tv_nsec / 1000 } };
+	timer_t timer;
+
+	if (!strcmp(kind, "itimer"))
+		return !setitimer(ITIMER_REAL, &micros, NULL);
+	if (!strcmp(kind, "alarm"))
+		return !alarm((unsigned int)spec->it_value.tv_sec);
+	return !timer_create(CLOCK_MONOTONIC, NULL, &timer) &&
+	       !timer_settime(timer, 0, spec, NULL);
+}
+
+/* The signal of each of these timers is SIGALRM. */
+static bool wait_for_timer(int64_t span)
+{
+	struct itimerspec spec = { .it_value = span_of(span) };
+	sigset_t set;
+
+	if (!strcmp(kind, "timerfd"))
+		return wait_for_file(&spec);
+	sigemptyset(&set);
+	sigaddset(&set, SIGALRM);
+	sigprocmask(SIG_BLOCK, &set, NULL);
+	return set_timer(&spec) && sigwaitinfo(&set, NULL) == SIGALRM;
+}
+
+static bool is_timer(void)
+{
+	return strstr(kind, "timer") || !strcmp(kind, "alarm");
+}
+
 static bool wait_for(int64_t span)
 {
 	struct timeval micros = { span / BILLION, span % BILLION / 1000 };
@@ -54,12 +101,19 @@ static bool wait_for(int64_t span)
 				   (int)(span / MILLION));
 	if (!strcmp(kind, "sleep"))
 		return !nanosleep(&time, NULL);
-	return wait_for_lock(span);
+	return is_timer() ? wait_for_timer(span) : wait_for_lock(span);
+}
+
+static int64_t span_of_number(intptr_t number)
+{
+	if (!strcmp(kind, "alarm"))
+		return (1 + number % SPANS) * BILLION;
+	return (1000 + number % SPANS) * MILLION;
 }
 
 static void *wait_once(void *argument)
 {
-	int64_t span = (1000 + (intptr_t)argument % SPANS) * MILLION;
+	int64_t span = span_of_number((intptr_t)argument);
 	int64_t before = nanos(now(CLOCK_MONOTONIC)), took;
 
 	if (!wait_for(span))

@@ -97,11 +97,25 @@ static void lose(void)
 	check_kernel();
 }
 
+/* What isn't permitted is inherited only by CAP_SETPCAP, and nothing beyond the bounding set. */
+static void inherit(void)
+{
+	const uint32_t others = 1U << CAP_SETPCAP;
+
+	CHECK(!set_sets(others, others, 0) && !set_sets(others, others, TIME_BIT));
+	CHECK(get_sets().inheritable == TIME_BIT && !(get_sets().permitted & TIME_BIT));
+	CHECK(!set_sets(others, 0, 0));
+	CHECK(set_sets(others, 0, TIME_BIT) == -1 && errno == EPERM);
+	CHECK(!get_sets().inheritable);
+	check_kernel();
+}
+
 static void refuse(void)
 {
 	CHECK(set_sets(0, TIME_BIT, 0) == -1 && errno == EPERM);
 	CHECK(!prctl(PR_CAPBSET_DROP, CAP_SYS_TIME, 0, 0, 0) &&
 	      !prctl(PR_CAPBSET_READ, CAP_SYS_TIME, 0, 0, 0));
+	CHECK(set_sets(TIME_BIT, 0, TIME_BIT) == -1 && errno == EPERM);
 	header.version = 0;
 	CHECK(syscall(SYS_capget, &header, NULL) == 0 || errno == EINVAL);
 	CHECK(header.version == _LINUX_CAPABILITY_VERSION_3);
@@ -128,6 +142,7 @@ int main(void)
 
 	run(keep);
 	run(lose);
+	run(inherit);
 	run(refuse);
 	CHECK(!prctl(PR_SET_KEEPCAPS, 1, 0, 0, 0) && !setuid(USER));
 	CHECK(!set_sets(TIME_BIT, TIME_BIT, 0));

@@ -4,14 +4,16 @@ import pathlib
 import re
 import shutil
 import signal
+import socket
 import subprocess
 import tempfile
+import time
 import unittest
 
 ROOT = pathlib.Path(__file__).resolve().parents[2]
 TKRUN = os.environ.get("TKRUN_PROGRAM", str(ROOT / "dist/bin/tkrun"))
 PROGRAMS = os.environ.get("TKRUN_TESTS", str(ROOT / "dist/tests"))  # tools/check_run compiles them
-SECONDS = 120  # the longest that a run may take
+SECONDS = 600  # the longest that a run may take: that of signalled.c has taken 120 on a busy machine
 
 CALLS = {"openat": "257", "ptrace": "101", "seccomp": "317"}  # the numbers of system calls
 STILL = ["--counter", "sleeps"]  # no time passes while programs compute
@@ -35,6 +37,15 @@ def call(command, **options):
     return subprocess.CompletedProcess(command, process.returncode, *texts)
 
 
+def wait_until(holds):
+    """Waits until a condition holds, at most as long as a run may take."""
+    end = time.monotonic() + SECONDS
+    while not holds():
+        if time.monotonic() > end:
+            raise TimeoutError(f"{SECONDS} s have passed")
+        time.sleep(0.01)
+
+
 def host_call(command, text=""):
     """Runs a program on the host's clocks, which it may not set. Returns its output."""
     keeps = ["setpriv", "--bounding-set", "-sys_time"] if IS_ROOT else []
@@ -46,6 +57,13 @@ def host_call(command, text=""):
 def program(name):
     """The path of a program of tests/run."""
     return f"{PROGRAMS}/{name}"
+
+
+def free_port():
+    """A port of UDP on 127.0.0.1 that nobody has."""
+    with socket.socket(socket.AF_INET, socket.SOCK_DGRAM) as probe:
+        probe.bind(("127.0.0.1", 0))
+        return probe.getsockname()[1]
 
 
 # prints the second of REALTIME by three functions of the C library, in Python

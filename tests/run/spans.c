@@ -1,8 +1,8 @@
 /* SPDX-License-Identifier: MIT OR Apache-2.0 */
 /*
  * Makes waits for a span, each in its own process, and prints what became of them:
- * the name, the error that ended the wait, by how many ns MONOTONIC has moved on, and the
- * ns that the call states as left.
+ * the name, the error that ended the wait, by how many ns MONOTONIC has moved on, the ns
+ * that the call states as left, the signals, the mask, and how often the thread has slept.
  *
  *     spans MS              the span ends each wait
  *     spans MS after MS     a signal comes after this many ms

@@ -8,6 +8,7 @@
 #include <errno.h>
 #include <signal.h>
 #include <stdlib.h>
+#include <sys/resource.h>
 #include <sys/wait.h>
 
 enum { MILLION = 1000000, BILLION = 1000000000, LINE_MOST = 128, WAITS_MOST = 64 };
@@ -83,7 +84,32 @@ static inline void note(int number)
 	signals++;
 }
 
-/* Sends this process a signal after a span, from another one. */
+/* How often this thread has gone to sleep. */
+static inline long sleep_count(void)
+{
+	struct rusage usage;
+
+	getrusage(RUSAGE_THREAD, &usage);
+	return usage.ru_nvcsw;
+}
+
+/* Waits, without a sleep, until a process sleeps. */
+static inline void await_sleep(pid_t process)
+{
+	char path[32], state = 0;
+	FILE *file;
+
+	snprintf(path, sizeof(path), "/proc/%d/stat", process);
+	while (state != 'S') {
+		file = fopen(path, "re");
+		if (!file || fscanf(file, "%*d (%*[^)]) %c", &state) != 1)
+			perror("spans");
+		if (file)
+			fclose(file);
+	}
+}
+
+/* Sends this process a signal from another one, after a span that begins when it sleeps. */
 static inline void send_after(int64_t span)
 {
 	struct timespec time = span_of(span);
@@ -91,6 +117,7 @@ static inline void send_after(int64_t span)
 
 	if (fork())
 		return;
+	await_sleep(own);
 	nanosleep(&time, NULL);
 	kill(own, SIGUSR1);
 	_exit(0);
@@ -102,6 +129,7 @@ static inline void make_span(const struct span_wait *wait, int64_t span,
 {
 	struct sigaction action = { .sa_handler = note };
 	int64_t before, left = 0;
+	long slept;
 	int error;
 
 	sigaction(SIGUSR1, &action, NULL);
@@ -109,12 +137,14 @@ static inline void make_span(const struct span_wait *wait, int64_t span,
 		send_after(signal_after);
 	before = nanos(now(CLOCK_MONOTONIC));
 	blocked_before = blocked();
+	slept = sleep_count();
 	error = wait->wait(span, &left);
-	snprintf(line, LINE_MOST, "%s %s %lld %lld %d %s\n", wait->name,
+	snprintf(line, LINE_MOST, "%s %s %lld %lld %d %s %ld\n", wait->name,
 		 error ? strerrorname_np(error) : "0",
 		 (long long)(nanos(now(CLOCK_MONOTONIC)) - before),
 		 (long long)left, signals,
-		 blocked() == blocked_before ? "same" : "changed");
+		 blocked() == blocked_before ? "same" : "changed",
+		 sleep_count() - slept);
 }
 
 static inline int start_span(const struct span_wait *wait, int64_t span,

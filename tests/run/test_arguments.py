@@ -30,6 +30,7 @@ class Arguments(RunTest):
             "ahead": ["x", "", "1e10"],
             "uptime": ["x", "", "-1", "946080000", "inf", "nan", "1e3", "1.5.5", "1.", "+1"],
             "every": ["0", "-1", "x"],
+            "reads": ["-1", "x", "9223372036854775808"],
             "script": ["", "/nowhere/s", "/dev/zero"],
             "record": ["", "/nowhere/r", "/"],
             "log": ["", "/nowhere/l", "/"],
@@ -61,7 +62,8 @@ class Arguments(RunTest):
         self.assertIn("before 1970", self.refuse("--start", "5.1", "--uptime", "5.100000001"))
         self.refuse("--counter", "sleeps", "--speed", "2")
         self.refuse("--counter", "sleeps", "--error-ppm", "1")
-        self.refuse("--every", "2")
+        self.assertIn("--every needs", self.refuse("--every", "2"))
+        self.assertIn("--reads needs", self.refuse("--reads", "10000000"))
         (self.folder / "link").symlink_to(script)
         same = self.folder / "same"
         for words in [["--record", same, "--log", same], ["--script", script, "--record", script],

@@ -4,9 +4,9 @@ import pathlib
 import shutil
 import signal
 import subprocess
-import time
 
-from runs import (IS_ROOT, OTHER, STILL, TKRUN, RunTest, call, needs_mounts, needs_root, program)
+from runs import (IS_ROOT, OTHER, STILL, TKRUN, RunTest, call, needs_mounts, needs_root, program,
+                  wait_until)
 
 
 class Around(RunTest):
@@ -42,7 +42,7 @@ class Around(RunTest):
         self.assertTrue(folder.exists())
         run.stderr.close()
         run.stdin.close()
-        self.assertEqual(run.wait(20), 7)
+        self.assertEqual(run.wait(100), 7)
         self.assertFalse(folder.exists())
         run.stdout.close()
 
@@ -51,17 +51,16 @@ class Around(RunTest):
                                stdout=subprocess.PIPE, text=True)
         self.assertEqual(run.stdout.readline(), "up\n")
         run.terminate()
-        self.assertEqual(run.wait(20), 143)
+        self.assertEqual(run.wait(100), 143)
         run.stdout.close()
 
     def test_a_signal_after_the_program_ends_what_it_left(self):
         run = subprocess.Popen([TKRUN, "--quiet", "--", "bash", "-c",
                                 "sleep 100 & echo $$; exit 7"], stdout=subprocess.PIPE, text=True)
         process = int(run.stdout.readline())
-        while pathlib.Path(f"/proc/{process}").exists():
-            time.sleep(0.01)
+        wait_until(lambda: not pathlib.Path(f"/proc/{process}").exists())
         run.terminate()
-        self.assertEqual(run.wait(20), 7)
+        self.assertEqual(run.wait(100), 7)
         run.stdout.close()
 
     def start_check(self, *signals):
@@ -73,14 +72,13 @@ class Around(RunTest):
         run = subprocess.Popen(["env", *signals, self.folder / "dist/bin/tkrun", "--quiet",
                                 "--check", "--", "true"], stderr=subprocess.PIPE, text=True,
                                env={**os.environ, "TMPDIR": str(temporary)})
-        while not up.exists() or not up.read_text():
-            time.sleep(0.01)
+        wait_until(lambda: up.exists() and up.read_text())
         return run, pathlib.Path("/proc", up.read_text().strip())
 
     def check_end(self, run, tkcore, number):
         """Sends a signal, which ends tkrun and tkcore."""
         run.send_signal(number)
-        self.assertEqual(run.wait(20), 128 + number)
+        self.assertEqual(run.wait(100), 128 + number)
         self.assertEqual(run.communicate()[1],
                          f"tkrun: check: ended by a signal: {signal.strsignal(number)}\n")
         self.assertFalse(tkcore.exists())
@@ -95,11 +93,17 @@ class Around(RunTest):
                 self.check_end(*self.start_check("--default-signal"), number)
                 signals = (self.folder / "up.signals").read_text()
                 self.assertEqual(signals, "SigBlk:\t0000000000000000\nSigIgn:\t0000000000000000\n")
+
+    def test_an_ignored_signal_does_not_reach_the_check(self):
+        # the tkcore lists its signals
+        tkcore, up = self.share() / "bin/tkcore", self.folder / "up"
+        tkcore.write_text(f"#!/bin/sh\ntrap 'echo HUP >>{up}.signals' HUP\n"
+                          f"trap 'echo TERM >>{up}.signals; kill $!; trap - TERM; kill $$' TERM\n"
+                          f"sleep 100 & echo $$ >{up}\nwhile :; do wait; done\n")
         run, started = self.start_check("--default-signal", "--ignore-signal=HUP")
         run.send_signal(signal.SIGHUP)
-        time.sleep(0.3)
-        self.assertIsNone(run.poll())
         self.check_end(run, started, signal.SIGTERM)
+        self.assertEqual((self.folder / "up.signals").read_text(), "TERM\n")
 
     @needs_mounts("empties /dev/shm")
     def test_a_signal_that_comes_before_the_program_leaves_no_file(self):

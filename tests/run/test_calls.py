@@ -11,7 +11,8 @@ from runs import (CAN_FILTER, CAN_TRACE, LINUX, STILL, TKRUN, RunTest, call, nee
 
 WAIT = 2_000_000_000
 PAST = WAIT + 1  # on a counter of sleeps: a wait ends when the clock is past its time
-WAITS, SYSTEM_WAITS, OTHERS = 44, 20, 8  # the waits of waits.c, system.c and others.c
+WAITS = {"waits": 20, "lock_waits": 15, "timer_waits": 9}  # the waits of each program
+SYSTEM_WAITS, OTHERS = 20, 8  # those of system.c and others.c
 
 
 class Calls(RunTest):
@@ -76,6 +77,15 @@ class Calls(RunTest):
             self.assertRegex(run.stderr, "in [2-9] scripts")
             self.assertRegex(run.stderr, "check: tkcore gives each of the [0-9]+ values")
 
+    def test_a_long_record_of_negative_numbers(self):
+        # each part opens with a phase, a gain and a rest of adjtime below 0
+        lines = ["adjtimex modes=0x13 status=1 offset=-5000 freq=-6553600", "adjtime 0 -300000",
+                 *["sleep 1 0", "gettime 0"] * 40]
+        run = call([TKRUN, *STILL, "--check", "--", program("calls")],
+                   input="\n".join(lines) + "\n", env={**os.environ, "TKRUN_PART_BYTES": "1000"})
+        self.assertEqual(run.returncode, 0, run.stderr)
+        self.assertRegex(run.stderr, "in [0-9][0-9] scripts")
+
     def waits(self, *arguments, count):
         """Runs a program that prints its waits, and returns how long each was."""
         lines = [line.split() for line in self.run_on("--check", *arguments).splitlines()]
@@ -98,10 +108,12 @@ class Calls(RunTest):
                 self.assertLess(int(value), WAIT + 20_000_000_000)
 
     def test_waits_on_a_counter_of_sleeps(self):
-        self.check_exact("waits", WAITS)
+        for name, count in WAITS.items():
+            self.check_exact(name, count)
 
     def test_waits_on_a_counter_ten_times_as_fast(self):
-        self.check_at_speed("waits", WAITS)
+        for name, count in WAITS.items():
+            self.check_at_speed(name, count)
 
     def test_system_calls_on_a_counter_of_sleeps(self):
         self.check_exact("system", SYSTEM_WAITS)
@@ -190,42 +202,15 @@ class Calls(RunTest):
                     program("static_interrupted")])
         self.assertEqual((run.returncode, run.stdout, run.stderr), (0, "", ""))
 
-    def killed(self, name, count, *options):
-        """Runs a program that kills processes which set the clocks, and checks that the record
-        contains each set that one has made."""
-        record = self.folder / "r"
-        run = self.start("--start", 1000000000, "--every", 1000, *options, "--record", record,
-                         "--check", "--", program(name), count)
-        self.assertEqual(run.returncode, 0, run.stdout + run.stderr)
-        counts = re.fullmatch("killed 200, sets ([0-9]+), reads [0-9]+, back 0, errors 0\n",
-                              run.stdout)
-        self.assertTrue(counts, run.stdout)
-        sets = sum(line.startswith("set,") for part in self.folder.glob("r*")
-                   for line in part.read_text().splitlines())
-        self.assertGreaterEqual(sets, int(counts[1]))
-        return run.stderr
-
-    def test_killed_writers(self):
-        self.killed("killed", 100)
-
-    @unittest.skipUnless(CAN_TRACE, "no process may be traced")
-    def test_writers_killed_at_each_part_of_a_call(self):
-        # some of them held the lock
-        self.assertRegex(self.killed("stepped", 200), "took over [0-9]+ times from a process")
-
     @unittest.skipUnless(CAN_TRACE, "no process may be traced")
     def test_a_process_that_is_stopped_while_it_has_the_lock(self):
         for counter in [[], STILL]:
             run = subprocess.Popen([TKRUN, "--quiet", *counter, "--", program("held")],
                                    stdout=subprocess.PIPE, stderr=subprocess.PIPE, text=True)
             process = int(run.stdout.readline())
-            named = select.select([run.stderr], [], [], 20)[0] and run.stderr.readline()
+            named = select.select([run.stderr], [], [], 100)[0] and run.stderr.readline()
             os.kill(process, signal.SIGCONT)
-            self.assertEqual(run.communicate(timeout=20), ("", ""))
+            self.assertEqual(run.communicate(timeout=100), ("", ""))
             self.assertEqual((run.returncode, named), (0, (
                 f"tkrun: 'held' (process {process}) is stopped while it has the lock of the "
                 "clocks: all others wait for it\n")))
-
-    @unittest.skipUnless(CAN_FILTER, "the kernel lets no filter ask tkrun")
-    def test_killed_static_writers(self):
-        self.killed("static_killed", 100)

@@ -3,23 +3,16 @@ time."""
 import os
 import re
 import shutil
-import socket
 import subprocess
 import time
 import unittest
 
-from runs import ROOT, TKRUN, RunTest, needs_root
+from runs import ROOT, TKRUN, RunTest, free_port, needs_root
 
 EXAMPLE = ROOT / "examples/chrony"
 CHRONYD = shutil.which("chronyd", path="/usr/sbin:/sbin:/usr/bin:/bin")
 DAEMON = [CHRONYD, "-d", "-u", "root", "-F", "0", "-f"]
 SPAN = 60  # seconds
-
-
-def free_port():
-    with socket.socket(socket.AF_INET, socket.SOCK_DGRAM) as probe:
-        probe.bind(("127.0.0.1", 0))
-        return probe.getsockname()[1]
 
 
 class Chrony(RunTest):
@@ -56,7 +49,7 @@ class Chrony(RunTest):
         time.sleep(SPAN)
         offset, frequency = self.tracking(places["11323"])
         run.terminate()
-        report, calls = run.communicate(timeout=60)[0], log.read_text()
+        report, calls = run.communicate(timeout=100)[0], log.read_text()
         self.assertEqual(run.returncode, 0, report)
         self.assertRegex(report, "check: tkcore gives each of the [0-9]+ values")
         self.assertRegex(report, "commands: [0-9]+ accepted, 0 refused")

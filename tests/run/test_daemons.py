@@ -1,19 +1,24 @@
 """Daemons that drop root, and programs whose own libraries want to be the first."""
+import pathlib
+import re
 import shutil
 import subprocess
-import time
 import unittest
 
-from runs import STILL, TKRUN, RunTest, needs, needs_root, program
+from runs import STILL, TKRUN, RunTest, needs, needs_root, program, wait_until
 
 CHRONYD = shutil.which("chronyd", path="/usr/sbin:/sbin:/usr/bin:/bin")
-TIMESYNCD = shutil.which("/lib/systemd/systemd-timesyncd")
+# it conflicts with chrony, so it may be unpacked only
+TIMESYNCD = (shutil.which("/lib/systemd/systemd-timesyncd") or
+             shutil.which("/usr/src/deb-systemd-timesyncd/lib/systemd/systemd-timesyncd"))
 CONFIGURATION = """server 127.0.0.1 port 9
 port 0
 cmdport 0
 bindcmdaddress /
 pidfile {folder}/pid
 """
+# the numbers of poll, select, pselect, ppoll, epoll_wait and epoll_pwait
+WAITS = {"7", "23", "270", "271", "232", "281"}
 # reads past the end of an array if it gets an argument
 CHECKED = """#include <stdio.h>
 #include <stdlib.h>
@@ -33,6 +38,10 @@ int main(int count, char **words)
 """
 
 
+def text_of(process, name):
+    return pathlib.Path(f"/proc/{process}/{name}").read_text()
+
+
 class Rights(RunTest):
     @needs_root("drops root")
     def test_a_program_keeps_the_right_to_set_the_clock(self):
@@ -44,16 +53,26 @@ class Rights(RunTest):
         self.assertRegex(self.run_on(*STILL, "--deny-set", "--", program("rights"), status=1),
                          r"^\S*rights.c:\d+: !clock_settime")
 
+    def waits_without_root(self, process):
+        """Whether a process or one that it has started waits for files, and isn't root's."""
+        try:
+            user = re.search(r"^Uid:\s(\d+)", text_of(process, "status"), re.M)[1]
+            call = text_of(process, "syscall").split()[0]
+            children = text_of(process, f"task/{process}/children").split()
+        except OSError:  # it has ended
+            return False
+        return (user != "0" and call in WAITS) or any(map(self.waits_without_root, children))
+
     def starts(self, *command):
         """A daemon goes on until it is ended."""
         run = subprocess.Popen([TKRUN, "--quiet", "--start", "2030-01-01T00:00:00Z", "--",
                                 *command], stdout=subprocess.PIPE, stderr=subprocess.STDOUT,
                                text=True)
         self.addCleanup(run.stdout.close)
-        time.sleep(2)
+        wait_until(lambda: run.poll() is not None or self.waits_without_root(run.pid))
         is_running = run.poll() is None
         run.terminate()
-        output = run.communicate(timeout=60)[0]
+        output = run.communicate(timeout=100)[0]
         self.assertTrue(is_running, output)
         self.assertNotIn("apabilit", output)
         self.assertNotIn("rivilege", output)

@@ -5,19 +5,29 @@ import pathlib
 import signal
 import subprocess
 import time
+import unittest
 
-from runs import CAN_TRACE, STILL, TKRUN, RunTest, program
+from runs import CAN_TRACE, STILL, TKRUN, RunTest, program, wait_until
 
 # these go on after SIGTERM and SIGINT: one waits, and one computes
 STUBBORN = ("trap '' TERM INT; (while :; do :; done) & (exec sleep 1000) & echo $!; echo up; "
             "wait; sleep 1000")
 
 
+def end_group(run):
+    """Ends a run that a test has left, with all that it has started."""
+    if run.poll() is None:
+        os.killpg(run.pid, signal.SIGKILL)
+        run.communicate()
+
+
 class Ending(RunTest):
-    def begin(self, *arguments):
+    def begin(self, *arguments, signals="--default-signal", tracer=()):
         """Starts tkrun with a program that prints "up" at the end of its lines. Returns these."""
-        run = subprocess.Popen(["env", "--default-signal", TKRUN, "--quiet", *map(str, arguments)],
-                               stdout=subprocess.PIPE, stderr=subprocess.PIPE, text=True)
+        run = subprocess.Popen(["env", signals, *tracer, TKRUN, "--quiet", *map(str, arguments)],
+                               stdout=subprocess.PIPE, stderr=subprocess.PIPE, text=True,
+                               start_new_session=True)
+        self.addCleanup(end_group, run)
         lines = []
         while not lines or lines[-1] != "up\n":
             lines.append(run.stdout.readline())
@@ -26,7 +36,7 @@ class Ending(RunTest):
 
     def end(self, run, status):
         """Waits for the end of a run, which ends all its processes: they have its output."""
-        output, errors = run.communicate(timeout=60)
+        output, errors = run.communicate(timeout=100)
         self.assertEqual((output, errors, run.returncode), ("", "", status))
 
     def test_each_process_is_ended(self):
@@ -46,35 +56,26 @@ class Ending(RunTest):
         run.terminate()
         self.end(run, 128 + signal.SIGTERM)
 
+    @unittest.skipUnless(CAN_TRACE, "no process may be traced")
     def test_a_second_signal_ends_all_at_once(self):
-        spans = []
-        while len(spans) < 10 and min(spans, default=9) > 0.9:  # a busy machine may need several
-            run, _ = self.begin("--", "bash", "-c", STUBBORN)
-            start = time.monotonic()
-            run.terminate()
-            while signal.SIGTERM in self.pending(run.pid):  # the first one is taken
-                pass
-            run.send_signal(signal.SIGINT)
-            self.end(run, 128 + signal.SIGKILL)
-            spans.append(time.monotonic() - start)
-        self.assertLess(min(spans), 0.9)
-
-    def pending(self, process):
-        """The signals that a process is to get."""
-        status = pathlib.Path(f"/proc/{process}/status").read_text()
-        bits = int(status.split("ShdPnd:\t")[1].split()[0], 16)
-        return {number for number in signal.Signals if bits >> number - 1 & 1}
+        # a tracer lets the second that follows the first signal last for ever
+        for first, second in [(signal.SIGTERM, signal.SIGINT), (signal.SIGINT, signal.SIGTERM),
+                              (signal.SIGTERM, signal.SIGTERM)]:
+            with self.subTest(first=first, second=second):
+                run, lines = self.begin("--", "bash", "-c", f"echo $PPID; {STUBBORN}",
+                                        tracer=[program("held_grace")])
+                os.kill(int(lines[0]), first)
+                self.assertEqual(run.stdout.readline(), "waits\n")
+                os.kill(int(lines[0]), second)
+                self.end(run, 128 + signal.SIGKILL)
 
     def test_a_signal_that_was_ignored(self):
-        run = subprocess.Popen(["env", "--ignore-signal=INT", TKRUN, "--quiet", "--", "bash", "-c",
-                                "echo up; read; exit 5"], stdin=subprocess.PIPE,
-                               stdout=subprocess.PIPE, text=True)
-        self.assertEqual(run.stdout.readline(), "up\n")
+        # if SIGINT counted, SIGTERM would be the second signal, which only ends
+        run, _ = self.begin("--", "bash", "-c", "trap 'exit 5' TERM; echo up; sleep 1000 & wait",
+                            signals="--ignore-signal=INT")
         run.send_signal(signal.SIGINT)
-        time.sleep(1.5)
-        self.assertIsNone(run.poll())
-        run.communicate("\n", timeout=60)
-        self.assertEqual(run.returncode, 5)
+        run.terminate()
+        self.end(run, 5)
 
     def test_a_program_ends_in_its_own_way(self):
         run, _ = self.begin("--", "bash", "-c", "trap 'exit 5' TERM; echo up; sleep 1000 & wait")
@@ -86,16 +87,14 @@ class Ending(RunTest):
                             "trap 'echo up; exec sleep 1000' HUP; echo up; sleep 1000 & wait")
         run.send_signal(signal.SIGHUP)
         self.assertEqual(run.stdout.readline(), "up\n")
-        time.sleep(1.5)
-        self.assertIsNone(run.poll())
+        # if SIGHUP counted, this would be the second signal, which ends by SIGKILL
         run.terminate()
         self.end(run, 128 + signal.SIGTERM)
 
     def test_processes_that_a_session_has_left(self):
         run, lines = self.begin("--", "bash", "-c", "echo $$; setsid bash -c 'trap \"\" TERM; "
                                 "echo up; while :; do sleep 1000; done' & exit 3")
-        while pathlib.Path("/proc", lines[0].strip()).exists():
-            time.sleep(0.01)
+        wait_until(lambda: not pathlib.Path("/proc", lines[0].strip()).exists())
         run.terminate()
         self.end(run, 3)
 
@@ -107,6 +106,6 @@ class Ending(RunTest):
                                    stdout=subprocess.PIPE, stderr=subprocess.PIPE, text=True)
             process = int(run.stdout.readline())
             run.terminate()
-            run.communicate(timeout=60)
+            run.communicate(timeout=100)
             self.assertEqual(run.returncode, 128 + signal.SIGTERM)
             self.assertFalse(os.path.exists(f"/proc/{process}"))

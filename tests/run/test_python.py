@@ -16,9 +16,11 @@ LOOPS = ["-i", "test_can_interrupt_tight_loops"]
 @unittest.skipUnless(SUITE.exists(), "libpython3.11-testsuite isn't installed")
 class Python(RunTest):
     def suite(self, name, *options, ignored=()):
+        # a shell starts what it leaves in the background with SIGINT ignored, which these send
         with tempfile.TemporaryDirectory() as folder:
-            run = self.start("--quiet", *options, "--", "/usr/bin/python3.11", "-m", "test",
-                             "--tempdir", folder, *ignored, name)
+            run = self.start("--quiet", *options, "--", "env", "--default-signal=INT",
+                             "/usr/bin/python3.11", "-m", "test", "-W", "--tempdir", folder,
+                             *ignored, name)
         self.assertEqual(run.returncode, 0, run.stdout + run.stderr)
         self.assertIn("SUCCESS", run.stdout)
 

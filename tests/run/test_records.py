@@ -3,10 +3,10 @@ import itertools
 import os
 import re
 
-from runs import STILL, TKRUN, RunTest, call, needs_mounts, program
+from runs import STILL, TKRUN, RunTest, call, needs, needs_mounts, program
 
 SET_TIME = 1  # TKC_CMD_SET_TIME of include/tkcore.h
-ASK = 60  # ROW_ASK of run/rows.h
+ASK = 60  # ROW_ASK of run/clocks/rows.h
 
 
 class Records(RunTest):
@@ -110,7 +110,7 @@ for second in (2000000000, 1500000000, 1700000000):
     time.clock_settime(time.CLOCK_REALTIME, second)
     time.time()
 with open({str(rows)!r}, "r+b") as file:
-    row = struct.Struct("<4I2Qq")  # struct record_row of run/rows.h
+    row = struct.Struct("<4I2Qq")  # struct record_row of run/clocks/rows.h
     view = mmap.mmap(file.fileno(), 1000 * row.size)
     for at in range(0, len(view), row.size):
         if row.unpack_from(view, at)[6] == 1500000000 and view[at + 4] == {SET_TIME}:
@@ -192,6 +192,30 @@ with open({str(rows)!r}, "r+b") as file:
         self.assertRegex(run.stderr, f"the log ends before line {whole + 1}: "
                                      "(File too large|No space left on device)\n"
                                      f"tkrun: {30 - whole} lines aren't in the log\n")
+
+    def record_of(self, *options):
+        """Records a program that reads and sleeps. Returns the number of reads in the record, and what
+        tkrun prints."""
+        record = self.folder / "r"
+        code = "time() for 1..10; select(undef, undef, undef, 1); time() for 1..10"
+        run = self.start(*STILL, "--start", 5, *options, "--record", record, "--check", "--",
+                         "perl", "-e", code)
+        self.assertEqual(run.returncode, 0, run.stderr)
+        self.assertIn("\nupdate,", record.read_text())
+        return record.read_text().count("\nget,"), run.stderr
+
+    @needs("perl")
+    def test_a_record_of_so_many_reads(self):
+        count, said = self.record_of()
+        self.assertGreaterEqual(count, 20)
+        self.assertNotIn("--reads", said)
+        for most in [0, 7, 10, count - 1, count, count + 1]:
+            with self.subTest(most):
+                reads, said = self.record_of("--reads", most)
+                self.assertEqual(reads, min(most, count))
+                left = (f"tkrun: the record has the first {reads} reads, and not the "
+                        f"{count - reads} after them: --reads changes that\n")
+                self.assertEqual(left in said, most < count, said)
 
     def test_a_record_that_is_gone_is_not_checked(self):
         (self.folder / "gone").mkdir()

@@ -93,3 +93,15 @@ class Scripts(RunTest):
             fields[place] = str(int(fields[place]) + 1)
             self.assertIn(self.refuse(",".join(fields)), [
                 "record 1: tkrun can't continue running clocks"])
+
+    def test_commands_at_one_reading(self):
+        commands = ["step,1000000000,100,7", "tai,1000000000,37", "step,1000000000,-30,0",
+                    "set,2000000000,1600000000,5", "tai,2000000000,38"]
+        script = self.file("s", "\n".join(["openhz,64,1000000000,1,0,1000000000,0", *commands]))
+        record = self.folder / "r"
+        code = ("use Time::HiRes qw(clock_gettime sleep); for (1..3) { sleep 1;"
+                "printf qq(%.3f %.0f\n), clock_gettime(0), clock_gettime(11) - clock_gettime(0) }")
+        output = self.run_on(*STILL, "--script", script, "--record", record, "--check", "--",
+                             "/usr/bin/perl", "-e", code)
+        self.assertEqual(output, "1000000071.000 37\n1600000000.000 38\n1600000001.000 38\n")
+        self.assertEqual(given(record), commands)

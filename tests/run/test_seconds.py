@@ -6,6 +6,7 @@ import unittest
 from runs import CAN_FILTER, STILL, TKRUN, RunTest, program
 
 MIDNIGHT = 1483228800
+DAY = 86400
 BEFORE = 10  # the clocks start this many seconds before midnight
 FAR = 60     # s: a sleep that no step ends
 CYCLE = 1e-9  # s
@@ -48,6 +49,13 @@ class Seconds(RunTest):
             with self.subTest(status):
                 self.assertEqual(self.sleeps_over_a_leap(status, -2, 0, 1, 2,
                                                          options=[*STILL, "--check"]), ends)
+
+    def test_a_leap_second_of_clocks_that_are_not_synchronized(self):
+        # the bit that asked for it stays, and the next midnight has none
+        for status, late in [(0x51, 1), (0x61, -1)]:
+            with self.subTest(status):
+                self.assertEqual(self.sleeps_over_a_leap(status, -2, 0, DAY, options=STILL),
+                                 [8.5, 10.5 + late, 86410.5 + late])
 
     def test_a_sleep_in_the_inserted_second(self):
         # 23:59:59.5 is first reached before the leap

@@ -4,11 +4,10 @@ import pathlib
 import re
 import shutil
 import subprocess
-import time
 import unittest
 
 from runs import (CALLS, CAN_FILTER, CAN_TRACE, LINUX, OTHER, STILL, TKRUN, RunTest, call, needs,
-                  needs_root, program)
+                  needs_root, program, wait_until)
 
 GO = """package main
 
@@ -25,16 +24,19 @@ func main() {
 """
 
 
-# stops a wait of the host, and sleeps while it goes on
+# stops a wait of the host, and sleeps while it goes on. The wait ends when its file has a byte
 STOP = """
-wait='import select; select.poll().poll'
-env -i /usr/bin/python3 -c "$wait(5000)" & process=$!
-env -i /usr/bin/python3 -c "$wait(1000)"
+mkfifo $1
+env -i /usr/bin/python3 -c "import os, select, sys; files = select.poll()
+files.register(os.open('$1', os.O_RDWR), select.POLLIN)
+sys.exit(not files.poll(10**8))" & process=$!
+until read call _ </proc/$process/syscall && [ $call = 7 ]; do :; done
 kill -STOP $process
-env -i /usr/bin/python3 -c "$wait(200)"
+until grep -q 'State:.T' /proc/$process/status; do :; done
 kill -CONT $process
 sleep 1000
 kill -0 $process && echo "it waits"
+echo >$1
 wait $process
 echo $?
 """
@@ -47,6 +49,21 @@ class Static(RunTest):
             with self.subTest(counter):
                 self.assertEqual(self.run_on("--start", 1000000000, "--counter", counter, "--check",
                                              "--", program("static_reads")), "")
+
+    def test_lines(self):
+        # in a static program the image reads by lines, and in the other one the library does
+        for name in ["static_lines", "lines"]:
+            for options in [STILL, ["--hz", 1000], ["--counter", "tsc", "--hz", 1000]]:
+                with self.subTest(name, options=options):
+                    self.assertEqual(self.run_on(*options, "--", program(name)),
+                                     "all reads by lines are those by calls\n")
+
+    def test_no_signal_interrupts_a_read(self):
+        # if a record is made, each read is a system call
+        for name in ["static_uninterrupted", "uninterrupted"]:
+            for options in [[], ["--record", self.folder / "r"]]:
+                with self.subTest(name, options=options):
+                    self.assertEqual(self.run_on(*options, "--", program(name)), "failed 0\n")
 
     @unittest.skipUnless(CAN_TRACE, "no process may be traced")
     def test_reads_without_calls(self):
@@ -133,25 +150,36 @@ class Static(RunTest):
             self.assertIn("attached", self.trace.stderr.readline())
         return run
 
+    def children(self, process):
+        return pathlib.Path(f"/proc/{process}/task/{process}/children").read_text().split()
+
+    def is_executed(self, process):
+        """Whether a process waits in execve."""
+        try:
+            return pathlib.Path(f"/proc/{process}/syscall").read_text().startswith("59 ")
+        except OSError:  # it has ended
+            return False
+
     @needs("strace")
     @needs_root("chooses the number of a process")
     def test_a_thread_that_is_killed_before_its_answer_is_written(self):
         # each write of tkrun to another process is held up
         run = self.start_held("pwrite64,process_vm_writev:delay_enter=1000ms", "--",
                               program("static_reused"))
-        self.assertEqual(run.communicate("\n", 60)[0], "unwritten\n")
+        self.assertEqual(run.communicate("\n", 100)[0], "unwritten\n")
         self.assertRegex((self.folder / "calls").read_text(), "DELAYED")
 
     @needs("strace")
     @needs_root("traces tkrun")
     def test_more_programs_than_tkrun_follows_at_once(self):
-        # tkrun is held up while most of a thousand programs wait to be executed
+        # tkrun is held up until most of a thousand programs wait to be executed
         code = "echo up; read; for i in {1..1000}; do env -i /bin/date +%Y & done; wait"
-        run = self.start_held("rt_sigtimedwait:delay_enter=3s", "--static", "--start", 0, "--",
+        run = self.start_held("rt_sigtimedwait:delay_enter=100s", "--static", "--start", 0, "--",
                               "bash", "-c", code)
         run.stdin.write("\n")
         run.stdin.flush()
-        time.sleep(2)
+        shell, = self.children(run.pid)
+        wait_until(lambda: sum(map(self.is_executed, self.children(shell))) >= 500)
         self.trace.terminate()
         years = run.communicate(timeout=100)[0].split()
         self.assertEqual((len(years), set(years)), (1000, {"1970"}))
@@ -162,7 +190,7 @@ class Static(RunTest):
     def test_sleeps_of_which_tkrun_hears_late(self):
         code = f"echo up; read; exec {program('static_interrupted')}"
         run = self.start_held("ioctl:delay_exit=20ms", "--static", *STILL, "--", "bash", "-c", code)
-        self.assertEqual((run.communicate("\n", 60)[0], run.returncode), ("", 0))
+        self.assertEqual((run.communicate("\n", 100)[0], run.returncode), ("", 0))
 
     @needs("strace")
     @needs_root("traces tkrun")
@@ -174,7 +202,7 @@ class Static(RunTest):
                 f"/bin/sh -c '{loop} & exec sleep 20'; date +%s; kill $! 2>/dev/null")
         run = self.start_held("futex:delay_exit=200ms", "--static", *STILL, "--start", 0, "--",
                               "bash", "-c", code, where="202 ")
-        self.assertEqual(run.communicate("\n", 60)[0], "21\n")
+        self.assertEqual(run.communicate("\n", 100)[0], "21\n")
 
     def test_sleeps(self):
         for name in ["nanosleep", "clock_nanosleep", "absolute_sleep", "usleep", "sleep"]:
@@ -197,7 +225,7 @@ class Static(RunTest):
                                 "-c", command], stdout=subprocess.PIPE, text=True)
         self.assertEqual(run.stdout.readline(), "up\n")
         run.terminate()
-        self.assertEqual(run.wait(20), 143)
+        self.assertEqual(run.wait(100), 143)
         run.stdout.close()
 
     def test_what_a_dynamic_program_starts(self):
@@ -210,7 +238,8 @@ class Static(RunTest):
         self.assertNotIn("reads the host's clocks", run.stderr)
 
     def test_a_stop_leaves_a_wait_of_the_host(self):
-        self.assertEqual(self.run_on("--static", *STILL, "--", "bash", "-c", STOP), "it waits\n0\n")
+        self.assertEqual(self.run_on("--static", *STILL, "--", "bash", "-c", STOP, "bash",
+                                     self.folder / "fifo"), "it waits\n0\n")
 
     def test_a_tkrun_inside(self):
         inside = f"{TKRUN} --quiet {' '.join(STILL)} --start 2000000000 -- date +%s"

@@ -69,7 +69,7 @@ class Covered(RunTest):
                                stdout=subprocess.DEVNULL, text=True)
         lines = [run.stderr.readline() for _ in range(3)]
         run.terminate()
-        run.communicate(timeout=60)
+        run.communicate(timeout=100)
         self.assertIn("2001-01-01", "".join(lines))
 
     @needs("/usr/bin/python3")

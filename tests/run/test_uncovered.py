@@ -74,6 +74,21 @@ class Uncovered(RunTest):
         self.assertEqual((run.returncode, run.stderr), (
             0, "tkrun: SO_RCVTIMEO or SO_SNDTIMEO waits by the host's time\n"))
 
+    def test_system_calls_that_wait_by_the_hosts_time_are_named(self):
+        # io_uring_setup, io_getevents, io_pgetevents, and a futex that has another value
+        asynchronous = "io_uring or io_getevents waits by the host's time"
+        for call_of, warning in [
+                ("425, 0, None", asynchronous), ("208, 0, 0, 0, None, None", asynchronous),
+                ("333, 0, 0, 0, None, None, None", asynchronous),
+                ("202, word, 11, 1, word, word, 0",
+                 "FUTEX_WAIT_REQUEUE_PI waited by the host's time")]:
+            with self.subTest(call_of):
+                code = ("import ctypes; word = (ctypes.c_int64 * 2)(); "
+                        f"print(ctypes.CDLL(None).syscall({call_of}))")
+                run = self.start("--quiet", "--", "/usr/bin/python3", "-c", code)
+                self.assertEqual((run.returncode, run.stdout, run.stderr),
+                                 (0, "-1\n", f"tkrun: {warning}\n"))
+
 
 @unittest.skipUnless(CAN_FILTER, "the kernel lets no filter ask tkrun")
 class Untraced(RunTest):

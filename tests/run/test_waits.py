@@ -1,14 +1,18 @@
 """Each wait and timer that tkrun answers, compared with the same program on the host's clocks. On a
 counter of sleeps a wait takes its span and one cycle, which is 1 ns here."""
 import re
+import time
 import unittest
 
-from runs import CAN_FILTER, STILL, RunTest, call, needs, needs_root, program
+from kills import busy
+from runs import CAN_FILTER, STILL, RunTest, call, free_port, needs, needs_root, program
 
 NANOS = 10**9
 MILLI = 10**6
 BUSY = 30 * NANOS  # by how much a busy machine may hold up a program
 LEAP = "2016-12-31T23:59:57.5Z"
+READS = 1000
+WAITS = ["spans", "locks", "locks_futex"]
 
 
 def parse(text):
@@ -24,7 +28,7 @@ class Spans(RunTest):
         host = parse(host.stdout)
         still = parse(self.run_on(*STILL, "--", program(name), *arguments))
         fast = parse(self.run_on("--speed", 3, "--", program(name), *arguments))
-        self.assertGreater(len(host), 15)
+        self.assertGreater(len(host), 4)
         self.assertEqual(len(still), len(host))
         span, after = arguments[0] * MILLI, (arguments[2:] or [0])[0] * MILLI
         for real, exact, near in zip(host, still, fast):
@@ -50,19 +54,27 @@ class Spans(RunTest):
     def test_spans_of_locks(self):
         for millis in (1500, 250, 1050):
             self.check_spans("locks", millis)
+            self.check_spans("locks_futex", millis)
 
-    def test_waits_that_last_longer_than_a_slice(self):
-        # 15 s of the host; a wait of a condition variable is one call, and isn't divided
-        lines = parse(self.run_on("--speed", 0.1, "--", program("locks"), 1500))
+    def test_waits_are_not_divided(self):
+        # A signal that comes between two parts of a wait wouldn't interrupt it. Each of these waits
+        # lasts 15 s of the host. The call that looks whether the time has come may be a second sleep.
+        code = " & ".join(f"{program(name)} 1500 >{self.folder}/{name}" for name in WAITS)
+        self.run_on("--speed", 0.1, "--", "bash", "-c", f"{code} & wait")
+        lines = [line for name in WAITS for line in parse((self.folder / name).read_text())]
+        self.assertEqual(len(lines), 40)
         self.assertEqual({line[1] for line in lines}, {"0"})
         self.assertGreaterEqual(min(int(line[2]) for line in lines), 1500 * MILLI)
+        self.assertLess(sum(int(line[6]) for line in lines), 1.75 * len(lines))
 
     def test_interrupted_spans(self):
         # on a busy machine, the signal mustn't come after the span
         self.check_spans("spans", 40_750, "after", 250)
 
     def test_interrupted_spans_of_locks(self):
-        self.check_spans("locks", 2_250, "after", 250)
+        # a lock is waited for to the end
+        self.check_spans("locks", 8_250, "after", 250)
+        self.check_spans("locks_futex", 8_250, "after", 250)
 
     def test_fields_of_timers(self):
         host = call([program("fields")])
@@ -205,9 +217,10 @@ class Counters(RunTest):
     @needs("chronyd")
     @needs_root("runs chronyd")
     def test_an_hour_of_chronyd(self):
+        port = free_port()
         server = self.file("server", "local stratum 1\nallow 127.0.0.0/8\nbindaddress 127.0.0.1\n"
-                           f"port 11324\ncmdport 0\npidfile {self.folder}/s\n")
-        client = self.file("client", "server 127.0.0.1 port 11324 iburst minpoll 4 maxpoll 4\n"
+                           f"port {port}\ncmdport 0\npidfile {self.folder}/s\n")
+        client = self.file("client", f"server 127.0.0.1 port {port} iburst minpoll 4 maxpoll 4\n"
                            f"port 0\ncmdport 0\npidfile {self.folder}/c\n")
         code = (f"timeout 3600 chronyd -d -x -u root -F 0 -f {server} 2>/dev/null & "
                 f"timeout 3600 chronyd -d -u root -F 0 -f {client} 2>/dev/null & "
@@ -216,19 +229,60 @@ class Counters(RunTest):
         self.assertEqual(output, "2030-01-01T01:00:00\n")
 
 
+def read_time():
+    """The time that the reading of a file of /proc takes at present."""
+    start = time.monotonic()
+    for _ in range(READS):
+        with open("/proc/self/status", encoding="utf-8") as file:
+            file.read()
+    return (time.monotonic() - start) / READS
+
+
+class Rates(RunTest):
+    def check_rate(self, least, threads, kind, count, how):
+        """Lets threads or processes wait for 97 times. The counter must move so often in a second of
+        the host, or on a busy machine once while 5 files of each thread are read."""
+        before = read_time()
+        run = self.start(*STILL, "--", program("pollers"), kind, count, how)
+        self.assertEqual((run.returncode, run.stdout), (0, f"ended {count}, early 0, late 0\n"))
+        found = re.match(r"tkrun: ([0-9.]+) s of the host; commands: ([0-9]+) accepted", run.stderr)
+        self.assertGreaterEqual(int(found[2]), 97)
+        busy_least = 1 / (5 * threads * max(before, read_time()))
+        self.assertGreater(int(found[2]) / float(found[1]), min(least, busy_least))
+
+    def test_threads(self):
+        self.check_rate(20, 400, "poll", 400, "threads")
+
+    def test_processes(self):
+        # a process with a timer has another thread
+        self.check_rate(50, 100, "poll", 100, "processes")
+        for kind in ("timerfd", "timer", "itimer", "alarm"):
+            with self.subTest(kind):
+                self.check_rate(50, 200, kind, 100, "processes")
+
+
 class Signals(RunTest):
     def test_signals_next_to_the_ends_of_waits(self):
         # a handler that has run ends the wait, whenever its signal comes
         for options in (STILL, ["--speed", 50]):
             for how in ([], ["taken"]):
-                with self.subTest(options, how=how):
+                with self.subTest(options, how=how), busy():
                     self.assertEqual(self.run_on(*options, "--", program("alarms"), *how),
-                                     "lost 0, wrong 0\n")
+                                     "waits 2160, lost 0, wrong 0\n")
 
     def test_a_program_that_uses_the_signal_itself(self):
-        # (slices of a millisecond can hold up a counter of sleeps on a busy machine: RUN.md)
-        self.assertEqual(self.run_on("--speed", 20, "--", program("alarms"), "own"),
-                         "lost 0, wrong 0\n")
+        for options in (STILL, ["--speed", 20]):
+            with self.subTest(options), busy():
+                self.assertEqual(self.run_on(*options, "--", program("alarms"), "own"),
+                                 "waits 0, lost 0, wrong 0\n")
+
+    def test_what_the_signal_does_otherwise(self):
+        host = call([program("signal63")])
+        self.assertEqual((host.returncode, host.stderr), (0, ""))
+        self.assertEqual(len(host.stdout.splitlines()), 17)
+        for options in (STILL, [], ["--speed", 0.5]):
+            with self.subTest(options):
+                self.assertEqual(self.run_on(*options, "--", program("signal63")), host.stdout)
 
     def test_waits_that_are_left(self):
         # after 2 s of each, the next wait takes 100 s

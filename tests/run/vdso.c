@@ -50,6 +50,25 @@ static void *find_function(const char *name)
 	return NULL;
 }
 
+static int64_t micros_of(const struct timespec *time)
+{
+	return time->tv_sec * INT64_C(1000000) + time->tv_nsec / 1000;
+}
+
+/* Checks that a function returns REALTIME in us: one between two reads of it. */
+static void check_micros(gettime *read, int (*read_micros)(struct timeval *, void *))
+{
+	struct timespec before, after;
+	struct timeval micros;
+	int64_t time;
+
+	CHECK(!read(CLOCK_REALTIME, &before));
+	CHECK(!read_micros(&micros, NULL) && is_after(micros.tv_sec, START));
+	CHECK(!read(CLOCK_REALTIME, &after));
+	time = micros.tv_sec * INT64_C(1000000) + micros.tv_usec;
+	CHECK(micros_of(&before) <= time && time <= micros_of(&after));
+}
+
 static void check_vdso(void)
 {
 	gettime *read = (gettime *)find_function("__vdso_clock_gettime");
@@ -64,14 +83,13 @@ static void check_vdso(void)
 			"__vdso_getcpu");
 	unsigned int processor = UINT32_MAX, node;
 	struct timespec time;
-	struct timeval micros;
 	time_t second;
 
 	check_clocks(read);
 	CHECK(read(77, &time) == -EINVAL);
 	CHECK(!resolve(CLOCK_MONOTONIC, &time) && time.tv_nsec == 1);
 	CHECK(!resolve(CLOCK_MONOTONIC_COARSE, &time) && time.tv_nsec > 1);
-	CHECK(!read_micros(&micros, NULL) && is_after(micros.tv_sec, START));
+	check_micros(read, read_micros);
 	CHECK(read_second(&second) == second && is_after(second, START));
 	CHECK(!find_processor(&processor, &node, NULL) && processor < 65536);
 }

@@ -146,6 +146,36 @@ static void print_others(void)
 	print("pselect", 10, pselect(-1, NULL, NULL, NULL, &span, NULL));
 }
 
+/* The kernel has sets of 8 bytes, and refuses another size. */
+static void print_sizes(void)
+{
+	struct timespec span = { 0, 1 };
+	struct epoll_event event;
+	struct {
+		const sigset_t *set;
+		size_t size;
+	} mask = { NULL, 4 };
+	sigset_t none;
+	int file = epoll_create1(0);
+
+	sigemptyset(&none);
+	mask.set = &none;
+	print("ppoll", 11, syscall(SYS_ppoll, NULL, 0, &span, &none, 4));
+	print("pselect6", 0, syscall(SYS_pselect6, 0, NULL, NULL, NULL, &span, &mask));
+	print("epoll_pwait", 0, syscall(SYS_epoll_pwait, file, &event, 1, 1, &none, 4));
+	print("epoll_pwait2", 10, syscall(SYS_epoll_pwait2, file, &event, 1, &span, &none, 16));
+	print("rt_sigtimedwait", 0, syscall(SYS_rt_sigtimedwait, &none, NULL, &span, 4));
+}
+
+/* No kernel has a call with one of these numbers: below all, between two, and above all. */
+static void print_numbers(void)
+{
+	static const long NUMBERS[] = { -1, -400, 400, 100000 };
+
+	for (int i = 0; i < 4; i++)
+		print("syscall", i, syscall(NUMBERS[i], 1, 2, 3, 4, 5, 6));
+}
+
 int main(void)
 {
 	pthread_mutex_lock(&mutex);
@@ -158,5 +188,7 @@ int main(void)
 	}
 	print_micros();
 	print_others();
+	print_sizes();
+	print_numbers();
 	return 0;
 }
