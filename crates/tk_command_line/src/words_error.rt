@@ -6,11 +6,11 @@ ghost use Rattle.tk_command_line.specs.declared.words_error.WordsError.TheVarian
 
 use clap::error::ErrorKind;
 use std::alloc::AllocError;
-use std::error::Error;
 use std::{fmt, io};
+use thiserror::Error;
 
 /// Says why arguments aren't accepted. `Display` prints the program's text.
-#[derive(Clone, Copy, Debug, PartialEq, Eq)]
+#[derive(Clone, Copy, Debug, PartialEq, Eq, Error)]
 pub enum WordsError {
     /// The arguments aren't in the form that docs/TKCORE.md gives, or one of them isn't UTF-8.
     Refused,
@@ -28,8 +28,6 @@ impl fmt::Display for WordsError {
         })
     }
 }
-
-impl Error for WordsError {}
 
 impl From<AllocError> for WordsError {
     ghost from_gives = { λ _ error. error ≡ Memory };

@@ -3,15 +3,15 @@ ghost use Rattle.tk_report.specs.Fault.{fault_of, fault_of_stamps, fault_of_trac
 ghost use Rattle.tk_report.specs.declared.fault.Fault.TheVariants.{Memory};
 
 use std::alloc::AllocError;
-use std::error::Error;
 use std::fmt;
+use thiserror::Error;
 use tk_keeper::TraceError;
 use tk_script::ScriptError;
 
 /// Says why a replay or a trace stopped. Nothing was written, except with `Write`.
 ///
 /// `Display` prints the program's text. docs/TKCORE.md lists the texts.
-#[derive(Clone, Copy, Debug, PartialEq, Eq)]
+#[derive(Clone, Copy, Debug, PartialEq, Eq, Error)]
 pub enum Fault {
     /// A read returned an error, or (in the program) a file could not be opened.
     Read,
@@ -56,8 +56,6 @@ impl fmt::Display for Fault {
         }
     }
 }
-
-impl Error for Fault {}
 
 impl From<ScriptError> for Fault {
     ghost from_gives = { λ error fault. fault ≡ fault_of error };

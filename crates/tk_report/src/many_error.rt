@@ -1,12 +1,12 @@
 ghost use Rattle.std.specs.Prelude.{Some};
 ghost use Rattle.tk_report.specs.ManyError.{many_text};
 
-use std::error::Error;
 use std::fmt;
+use thiserror::Error;
 
 /// Says why `replay_all` made no reports. If several causes apply, the first one in this list is
 /// returned. `Display` prints the program's text.
-#[derive(Clone, Copy, Debug, PartialEq, Eq)]
+#[derive(Clone, Copy, Debug, PartialEq, Eq, Error)]
 pub enum ManyError {
     /// The number of workers is 0 or more than 64.
     Count,
@@ -27,5 +27,3 @@ impl fmt::Display for ManyError {
         })
     }
 }
-
-impl Error for ManyError {}

@@ -2,8 +2,8 @@ ghost use Rattle.std.specs.Prelude.{Some};
 ghost use Rattle.tk_script.specs.ScriptError.{script_text};
 
 use crate::records::SIZE_LIMIT;
-use std::error::Error;
 use std::fmt;
+use thiserror::Error;
 use tk_counter::DescError;
 
 /// Names the first fault of a script or a stamp file, or an allocation failure.
@@ -12,7 +12,7 @@ use tk_counter::DescError;
 /// keyword, then its number of fields, then its fields from left to right, and last, in the first
 /// record of a script, the opening, and in a change of counter the counter's numbers. `row` counts
 /// records from 1. `Display` prints the program's text.
-#[derive(Clone, Copy, Debug, PartialEq, Eq)]
+#[derive(Clone, Copy, Debug, PartialEq, Eq, Error)]
 pub enum ScriptError {
     /// The text has more than 16,777,216 bytes.
     TooLarge,
@@ -50,5 +50,3 @@ impl fmt::Display for ScriptError {
         }
     }
 }
-
-impl Error for ScriptError {}
