@@ -6,7 +6,7 @@ use Rattle.std.proofs.Math.Seq.{take-add}
 use Rattle.tk_clock.specs.declared.command.Entry.{Entry}
 use Rattle.tk_clock.specs.Folding.{IsAlike, journal_from, folded_by}
 use Rattle.tk_clock.specs.Journal.{Opening, Journal, prefix, followed_by, accepted_count}
-use Rattle.tk_clock.specs.Legal.{IsLegal, IsAccepted, folded_opening}
+use Rattle.tk_clock.specs.Legal.{IsLegal, IsAccepted, Beginning, folded_opening}
 use Rattle.tk_clock.specs.Monotonic.{current_frequency, current_tick}
 use Rattle.tk_clock.specs.Refusal.{clock_refusal}
 use Rattle.tk_clock.specs.Snapshot.{snapshot_of}
@@ -50,9 +50,9 @@ accepted-folded journal n all =
     (sym (state_of-started (journal.opening.count + n) before)) (left journal n all))
 
 -- a legal journal stays legal when it is folded
-pub IsLegal-folded : (journal : Journal) (n : ℕ) → n ≤ length journal.entries → IsLegal journal →
-    IsLegal (folded_by n journal)
-IsLegal-folded journal n within legal =
+pub IsLegal-folded : (began : Beginning) (journal : Journal) (n : ℕ) → n ≤ length journal.entries →
+    IsLegal began journal → IsLegal began (folded_by n journal)
+IsLegal-folded began journal n within legal =
     let unfolded = legal.past.0 in
     let past = legal.past.1 in
     let start = prefix 0 journal in
@@ -136,8 +136,9 @@ pub tick-folded : (journal : Journal) (n : ℕ) → n ≤ length journal.entries
 tick-folded journal n within all = ap (λ (s : State). s.tick) (state_of-whole journal n within all)
 
 -- folding no entry doesn't change a legal journal
-pub folded_by-nothing : (journal : Journal) → IsLegal journal → folded_by 0 journal ≡ journal
-folded_by-nothing journal legal =
+pub folded_by-nothing : (began : Beginning) (journal : Journal) → IsLegal began journal →
+    folded_by 0 journal ≡ journal
+folded_by-nothing began journal legal =
     let unfolded = legal.past.0 in
     let start = prefix 0 journal in
     let begins : state_of start ≡ state_of unfolded =

@@ -15,7 +15,7 @@ use Rattle.tk_clock.specs.Time.{nanoseconds}
 use Rattle.tk_counter.specs.Counter.{Counter, IsCounter, usual_tick}
 use Rattle.tk_clock.specs.State.{State, state_of, effect}
 use Rattle.tk_clock.specs.Refusal.{first_of, clock_refusal, state_refusal, first_refusal, opening_refusal, is_full}
-use Rattle.tk_clock.specs.Legal.{IsLegal, IsAccepted, IsWhole, AtOpening, IsUnfolded, folded_opening}
+use Rattle.tk_clock.specs.Legal.{IsLegal, IsAccepted, IsWhole, Beginning, Opened, AtOpening, IsUnfolded, folded_opening}
 use Rattle.tk_clock.proofs.Append.{slice_get-append, slice_get-push, prefix-followed_by}
 use Rattle.tk_clock.proofs.Ledger.{ledger, fits_sleep, clock_refusal-state, no_more}
 use Rattle.tk_clock.proofs.Refusals.{first_refusal-room}
@@ -111,10 +111,10 @@ IsAccepted-prefix journal n all =
     ∙ all k entry (slice_get-take n journal.entries k entry found)
 
 -- a legal journal stays legal after an accepted entry
-pub IsLegal-followed_by : (journal : Journal) (entry : Entry) → IsLegal journal →
-    clock_refusal journal entry ≡ None →
-    IsLegal (followed_by journal entry)
-IsLegal-followed_by journal entry legal accepted =
+pub IsLegal-followed_by : (began : Beginning) (journal : Journal) (entry : Entry) →
+    IsLegal began journal → clock_refusal journal entry ≡ None →
+    IsLegal began (followed_by journal entry)
+IsLegal-followed_by began journal entry legal accepted =
     record {
       past = legal.past;
       accepted = IsAccepted-followed_by journal entry legal.accepted accepted;
@@ -184,16 +184,16 @@ IsWhole-opened counter reading real described opens = record {
 -- newly opened clocks begin to run over their counter
 IsUnfolded-opened : (counter : Counter) (reading : ℕ) (real : Timespec) → IsCounter counter →
     opening_refusal counter reading real ≡ None →
-    IsUnfolded (opened counter reading real)
+    IsUnfolded Opened (opened counter reading real)
 IsUnfolded-opened counter reading real described opens = record {
   starts = AtOpening counter reading real described opens;
   accepted = λ k entry e. absurd (none_listed k entry e);
 }
 
--- clocks that may be opened begin with a legal journal
+-- opened clocks begin with a legal journal
 pub IsLegal-opened : (counter : Counter) (reading : ℕ) (real : Timespec) → IsCounter counter →
     opening_refusal counter reading real ≡ None →
-    IsLegal (opened counter reading real)
+    IsLegal Opened (opened counter reading real)
 IsLegal-opened counter reading real described opens = record {
   past = (
     opened counter reading real,
@@ -204,7 +204,7 @@ IsLegal-opened counter reading real described opens = record {
 }
 
 -- a whole journal is legal: before its first entry no command was accepted
-pub IsLegal-whole : (journal : Journal) → IsWhole journal → IsLegal journal
+pub IsLegal-whole : (journal : Journal) → IsWhole journal → IsLegal Opened journal
 IsLegal-whole journal whole =
     let reading = whole.opens.0 in
     let real = whole.opens.1 in

@@ -1,19 +1,16 @@
--- A legal journal is whole if no command was accepted before its first entry, unless its clocks ran
--- already when it began.
-use Rattle.std.proofs.Common.{◌≡◌, ℕ, ◌+◌, List, [], length, refl, sym, ◌∙◌, ap, subst, arith, inl, inr}
-use Rattle.std.specs.Prelude.{◌⊎◌, None}
+-- A legal journal of opened clocks is whole if no command was accepted before its first entry. One
+-- of given clocks begins with them if nothing was folded.
+use Rattle.std.proofs.Common.{◌≡◌, ℕ, ◌+◌, ◌≤◌, List, [], length, refl, sym, ◌∙◌, ap, subst, arith}
+use Rattle.std.specs.Prelude.{None}
 use Rattle.std.proofs.lemmas.List.{take_all}
 use Rattle.tk_counter.specs.Counter.{Counter, IsCounter}
 use Rattle.tk_clock.specs.declared.command.Entry.{Entry}
 use Rattle.tk_clock.specs.declared.timespec.Timespec.{Timespec}
-use Rattle.tk_clock.specs.Folding.{journal_from}
 use Rattle.tk_clock.specs.Journal.{Opening, Journal, opened, prefix}
-use Rattle.tk_clock.specs.Legal.{IsLegal, IsWhole, IsStart, AtOpening, AtChange, AtClocks, folded_opening}
+use Rattle.tk_clock.specs.Legal.{Beginning, Opened, Given, IsLegal, IsWhole, IsStart, AtOpening, AtChange, AtClocks, folded_opening}
 use Rattle.tk_clock.specs.Refusal.{opening_refusal}
-use Rattle.tk_clock.specs.Running.{AreClocks}
 use Rattle.tk_clock.specs.State.{State, state_of}
 use Rattle.tk_clock.proofs.Legal.{opened-folded}
-use Rattle.tk_clock.proofs.Start.{state_of-begun}
 
 nothing_before : (journal : Journal) → length journal.entries ≡ 0 → prefix 0 journal ≡ journal
 nothing_before journal none =
@@ -29,35 +26,29 @@ pub record IsOpened (opening : Opening) : Type 0 where
   pub opens : opening_refusal counter reading real ≡ None
   pub stated : opening ≡ (opened counter reading real).opening
 
--- or that of clocks which ran already
-pub record HadRun (opening : Opening) : Type 0 where
-  pub state : State
-  pub clocks : AreClocks state
-  pub stated : opening ≡ folded_opening 0 state
-
-start-opened : (opening : Opening) → IsStart opening → opening.count ≡ 0 →
-    IsOpened opening ⊎ HadRun opening
-start-opened opening (AtOpening counter reading real described opens) none = inl (record {
+start-opened : (began : Beginning) (opening : Opening) → IsStart began opening → began ≡ Opened →
+    opening.count ≡ 0 → IsOpened opening
+start-opened began opening (AtOpening counter reading real described opens) same none = record {
   counter = counter;
   reading = reading;
   real = real;
   described = described;
   opens = opens;
   stated = refl;
-})
-start-opened opening (AtChange before reading counter first starts accepted described changes) none =
-    absurd (omega (arith, none))
-start-opened opening (AtClocks front state few clocks) none =
-    inr (record { state = state; clocks = clocks; stated = ap (λ k. folded_opening k state) none })
+}
+start-opened began opening (AtClocks front state few clocks) same none = absurd (cc same)
+start-opened began opening (AtChange how before reading counter first starts accepted described changes)
+    same none = absurd (omega (arith, none))
 
--- a legal journal whose clocks were opened, before any command was accepted, is whole
-whole-opened : (journal : Journal) → (legal : IsLegal journal) → journal.opening.count ≡ 0 →
-    IsOpened legal.past.0.opening → IsWhole journal
-whole-opened journal legal none start =
+-- a legal journal of opened clocks is whole if no command was accepted before its first entry
+pub IsWhole-legal : (journal : Journal) → IsLegal Opened journal → journal.opening.count ≡ 0 →
+    IsWhole journal
+IsWhole-legal journal legal none =
     let past = legal.past.0 in
     let count : past.opening.count + length past.entries ≡ 0 =
     sym (ap (λ (o : Opening). o.count) legal.past.2) ∙ none in
     let few : length past.entries ≡ 0 = omega (arith, count) in
+    let start = start-opened Opened past.opening legal.past.1.starts refl (omega (arith, count)) in
     let counter = start.counter in
     let reading = start.reading in
     let real = start.real in
@@ -80,38 +71,28 @@ whole-opened journal legal none start =
       accepted = legal.accepted;
     }
 
--- a legal journal whose clocks ran already, before any command was accepted, begins with them
-run-opened : (journal : Journal) → (legal : IsLegal journal) → journal.opening.count ≡ 0 →
-    HadRun legal.past.0.opening → HadRun journal.opening
-run-opened journal legal none start =
-    let past = legal.past.0 in
-    let state = start.state in
-    let count : past.opening.count + length past.entries ≡ 0 =
-    sym (ap (λ (o : Opening). o.count) legal.past.2) ∙ none in
-    let few : length past.entries ≡ 0 = omega (arith, count) in
-    let empty : past ≡ journal_from 0 state [] =
-    sym (nothing_before past few)
-    ∙ ap (λ (o : Opening). let j : Journal = record { opening = o; entries = [] }
-    in j) start.stated in
-    record {
-      state = state;
-      clocks = start.clocks;
-      stated = legal.past.2 ∙ ap (λ k. folded_opening k (state_of past)) count
-          ∙ ap (λ (j : Journal). folded_opening 0 (state_of j)) empty
-          ∙ ap (folded_opening 0) (state_of-begun 0 state start.clocks.running.steered);
-    }
+-- clocks over a counter count at least the commands with which they were given
+front-counted : (began : Beginning) (opening : Opening) → IsStart began opening →
+    (front : ℕ) (state : State) → began ≡ Given front state → front ≤ opening.count
+front-counted began opening (AtOpening counter reading real described opens) front state same =
+    absurd (cc same)
+front-counted began opening (AtClocks given clocks few runs) front state same =
+    let number : given ≡ front = cc same in omega (arith, number)
+front-counted began opening
+    (AtChange how before reading counter first starts accepted described changes) front state same =
+    let earlier = front-counted how before.opening starts front state same in omega (arith, earlier)
 
--- a legal journal is whole if no command was accepted before its first entry, unless it begins with
--- clocks that ran already
-pub IsWhole-legal : (journal : Journal) → IsLegal journal → journal.opening.count ≡ 0 →
-    IsWhole journal ⊎ HadRun journal.opening
-IsWhole-legal journal legal none =
-    let past = legal.past.0 in
-    let count : past.opening.count + length past.entries ≡ 0 =
-    sym (ap (λ (o : Opening). o.count) legal.past.2) ∙ none in
-    begun (start-opened past.opening legal.past.1.starts (omega (arith, count)))
-  where
-    begun : IsOpened legal.past.0.opening ⊎ HadRun legal.past.0.opening →
-        IsWhole journal ⊎ HadRun journal.opening
-    begun (inl start) = inl (whole-opened journal legal none start)
-    begun (inr start) = inr (run-opened journal legal none start)
+-- the opening of given clocks, as long as no command was folded into it
+start-given : (began : Beginning) (opening : Opening) → IsStart began opening →
+    (front : ℕ) (state : State) → began ≡ Given front state → opening.count ≡ front →
+    opening ≡ folded_opening front state
+start-given began opening (AtOpening counter reading real described opens) front state same none =
+    absurd (cc same)
+start-given began opening (AtClocks given clocks few runs) front state same none =
+    let number : given ≡ front = cc same in
+    let all : clocks ≡ state = cc same in
+    ap (λ k. folded_opening k clocks) number ∙ ap (folded_opening front) all
+start-given began opening (AtChange how before reading counter first starts accepted described changes)
+    front state same none =
+    let earlier = front-counted how before.opening starts front state same in
+    absurd (omega (arith, earlier, none))

@@ -1,4 +1,5 @@
--- Which journals can exist: clocks can have the opening's state, and all entries were accepted.
+-- Which journals can exist: clocks that began in some way can have the opening's state, and all
+-- entries were accepted.
 use Rattle.std.specs.Prelude.{◌≡◌, ℕ, ◌+◌, ◌≤◌, slice_get, Some, None}
 use Rattle.tk_counter.specs.Counter.{Counter, IsCounter}
 use Rattle.tk_clock.specs.declared.timespec.Timespec.{Timespec}
@@ -40,28 +41,34 @@ folded_opening n state = record {
   asleep = state.base.asleep;
 }
 
+-- how clocks began: they were opened, or they were given as they ran, after this many commands
+pub data Beginning : Type 0 where
+  Opened : Beginning
+  Given : ℕ → State → Beginning
+
 -- an opening with which the clocks of a journal begin to run over a counter: they were opened with
--- it; their counter was changed after a journal over another one, all of whose entries were
--- accepted; or they ran already, and this many commands are counted as accepted before
-pub data IsStart : Opening → Type 0 where
+-- it; they were given; or their counter was changed after a journal over another one, all of whose
+-- entries were accepted
+pub data IsStart : Beginning → Opening → Type 0 where
   AtOpening : (counter : Counter) (reading : ℕ) (real : Timespec) → IsCounter counter →
-      opening_refusal counter reading real ≡ None → IsStart (opened counter reading real).opening
-  AtChange : (before : Journal) (reading : ℕ) (counter : Counter) (first : ℕ) →
-      IsStart before.opening → IsAccepted before → IsCounter counter →
-      change_refusal (state_of before) reading counter first ≡ None →
-      IsStart (folded_opening (accepted_count before + 1)
-      (changed (state_of before) reading counter first))
+      opening_refusal counter reading real ≡ None →
+      IsStart Opened (opened counter reading real).opening
   AtClocks : (front : ℕ) (state : State) → front ≤ counted_most → AreClocks state →
-      IsStart (folded_opening front state)
+      IsStart (Given front state) (folded_opening front state)
+  AtChange : (began : Beginning) (before : Journal) (reading : ℕ) (counter : Counter) (first : ℕ) →
+      IsStart began before.opening → IsAccepted before → IsCounter counter →
+      change_refusal (state_of before) reading counter first ≡ None →
+      IsStart began (folded_opening (accepted_count before + 1)
+      (changed (state_of before) reading counter first))
 
 -- a journal that lists every command since the clocks began to run over its counter
-pub record IsUnfolded (journal : Journal) : Type 0 where
-  pub starts : IsStart journal.opening
+pub record IsUnfolded (began : Beginning) (journal : Journal) : Type 0 where
+  pub starts : IsStart began journal.opening
   pub accepted : IsAccepted journal
 
 -- a journal that begins in the state that some such journal leaves, and whose entries were all
 -- accepted; if no entry was folded, that journal has no entries
-pub record IsLegal (journal : Journal) : Type 0 where
-  pub past : (unfolded : Journal) × IsUnfolded unfolded
+pub record IsLegal (began : Beginning) (journal : Journal) : Type 0 where
+  pub past : (unfolded : Journal) × IsUnfolded began unfolded
       × (journal.opening ≡ folded_opening (accepted_count unfolded) (state_of unfolded))
   pub accepted : IsAccepted journal

@@ -2,14 +2,14 @@ ghost use Rattle.std.specs.Prelude.{◌≡◌, Some};
 ghost use Rattle.tk_clock.specs.Refusal.{refusal_of};
 ghost use Rattle.tk_clock.specs.RefusalText.{refusal_text, read_text};
 
-use std::error::Error;
 use std::fmt;
+use thiserror::Error;
 
 /// Says why a command is refused: the first test that fails. A refused command changes nothing.
 ///
 /// The tests run in this order: `Full`, `Asleep` or `Awake`, `Invalid` for numbers out of range,
 /// `Behind`, `Range`, `Invalid` for a time that REALTIME can't be set to, `Memory`.
-#[derive(Clone, Copy, Debug, PartialEq, Eq)]
+#[derive(Clone, Copy, Debug, PartialEq, Eq, Error)]
 pub enum Refusal {
     /// The journal has no capacity for another entry.
     Full,
@@ -44,10 +44,8 @@ impl fmt::Display for Refusal {
     }
 }
 
-impl Error for Refusal {}
-
 /// Says why a clock can't be read: the first test that fails.
-#[derive(Clone, Copy, Debug, PartialEq, Eq)]
+#[derive(Clone, Copy, Debug, PartialEq, Eq, Error)]
 pub enum ReadError {
     /// The reading is above the mask.
     Invalid,
@@ -65,8 +63,6 @@ impl fmt::Display for ReadError {
         })
     }
 }
-
-impl Error for ReadError {}
 
 impl From<ReadError> for Refusal {
     ghost from_gives = { λ error refusal. refusal ≡ refusal_of error };

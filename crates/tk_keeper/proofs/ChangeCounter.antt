@@ -10,7 +10,7 @@ use Rattle.tk_clock.specs.declared.refusal.Refusal.TheVariants.{Full}
 use Rattle.tk_clock.specs.ChangeCounter.{changed, change_refusal, IsUpTo}
 use Rattle.tk_clock.specs.Folding.{journal_from}
 use Rattle.tk_clock.specs.Journal.{Journal, accepted_count, last_reading}
-use Rattle.tk_clock.specs.Legal.{IsStart, folded_opening}
+use Rattle.tk_clock.specs.Legal.{Beginning, IsStart, folded_opening}
 use Rattle.tk_clock.specs.Limits.{counted_most}
 use Rattle.tk_clock.specs.Monotonic.{monotonic}
 use Rattle.tk_clock.specs.State.{State, state_of, base_of, base_value, base_monotonic}
@@ -31,11 +31,11 @@ state_of-changed_by journal reading counter first =
     refl
 
 -- the running clocks are those of the keeper's journal
-pub running-shown : (folded spare : ℕ) (start clock : State) (entries : List Entry)
+pub running-shown : (began : Beginning) (folded spare : ℕ) (start clock : State) (entries : List Entry)
     (keeper : Keeper) →
-    record { journal = journal_from folded start entries; spare = spare } ≡ keeper →
-    IsKept (journal_from folded start entries) clock → clock ≡ state_of keeper.journal
-running-shown folded spare start clock entries keeper shows held =
+    record { journal = journal_from folded start entries; began = began; spare = spare } ≡ keeper →
+    IsKept began (journal_from folded start entries) clock → clock ≡ state_of keeper.journal
+running-shown began folded spare start clock entries keeper shows held =
     held.running ∙ ap (λ (k : Keeper). state_of k.journal) shows
 
 -- a change that the running clocks accept is accepted in the journal's state
@@ -52,20 +52,20 @@ accepted-shown journal clock after reading counter first running stated =
     running stated
 
 -- a change that the running clocks accept gives the journal that is stated
-pub changed-shown : (folded spare : ℕ) (start clock : State) (entries : List Entry)
+pub changed-shown : (began : Beginning) (folded spare : ℕ) (start clock : State) (entries : List Entry)
     (keeper : Keeper) →
-    record { journal = journal_from folded start entries; spare = spare } ≡ keeper →
-    IsKept (journal_from folded start entries) clock →
+    record { journal = journal_from folded start entries; began = began; spare = spare } ≡ keeper →
+    IsKept began (journal_from folded start entries) clock →
     (after : State) (reading : ℕ) (counter : Counter) (first : ℕ) (journal : Journal) →
     (change_refusal clock reading counter first ≡ None)
     × (after ≡ changed clock reading counter first) →
     journal ≡ journal_from (accepted_count keeper.journal + 1) after [] →
     (change_refusal (state_of keeper.journal) reading counter first ≡ None)
     × (journal ≡ changed_by keeper.journal reading counter first)
-changed-shown folded spare start clock entries keeper shows held after reading counter first journal
+changed-shown began folded spare start clock entries keeper shows held after reading counter first journal
     stated begun =
     let shown = accepted-shown keeper.journal clock after reading counter first
-    (running-shown folded spare start clock entries keeper shows held) stated in (
+    (running-shown began folded spare start clock entries keeper shows held) stated in (
       shown.0,
       begun ∙ ap (λ (s : State). journal_from (accepted_count keeper.journal + 1) s []) shown.1,
     )
@@ -130,12 +130,13 @@ RisesOver-changed journal change counter first = record {
 }
 
 -- the kept states of such a journal, and its own limits
-pub IsKept-begun : (count : ℕ) (state : State) → IsStart (folded_opening count state) →
+pub IsKept-begun : (began : Beginning) (count : ℕ) (state : State) →
+    IsStart began (folded_opening count state) →
     state.base.mult ≡ multiplier state.base.counter state.frequency state.tick →
-    count ≤ counted_most → IsKept (journal_from count state []) state
-IsKept-begun count state starts steered few =
+    count ≤ counted_most → IsKept began (journal_from count state []) state
+IsKept-begun began count state starts steered few =
     record {
-      legal = IsLegal-begun count state starts steered;
+      legal = IsLegal-begun began count state starts steered;
       running = sym (state_of-begun count state steered);
       room = omega arith;
       counted = omega (arith, few);

@@ -4,6 +4,7 @@ use Rattle.std.specs.Prelude.{Option, Some, None, Result, Ok, Err, MatchResult, 
 use Rattle.tk_clock.specs.declared.command.Entry.{Entry}
 use Rattle.tk_clock.specs.declared.refusal.Refusal.{Refusal}
 use Rattle.tk_clock.specs.declared.refusal.Refusal.TheVariants.{Memory}
+use Rattle.tk_clock.specs.Legal.{Beginning}
 use Rattle.tk_clock.specs.Journal.{Journal, followed_by, accepted_count}
 use Rattle.tk_clock.specs.Monotonic.{monotonic}
 use Rattle.tk_clock.specs.Refusal.{is_full, first_refusal, state_refusal, IsRefusal}
@@ -88,38 +89,38 @@ running-accepted journal before after entry running stated =
     stated.1 ∙ state_of-followed_by journal before entry.who entry.reading entry.cmd running stated.0
 
 -- a keeper's journal refuses the commands that its clocks refuse
-pub first_refusal-clocks : (folded spare : ℕ) (start clock : State) (entries : List Entry)
-    (keeper : Keeper) (entry : Entry) (refusal : Option Refusal) →
-    record { journal = journal_from folded start entries; spare = spare } ≡ keeper →
-    is_full keeper.journal ≡ false → IsKept (journal_from folded start entries) clock →
+pub first_refusal-clocks : (began : Beginning) (folded spare : ℕ) (start clock : State)
+    (entries : List Entry) (keeper : Keeper) (entry : Entry) (refusal : Option Refusal) →
+    record { journal = journal_from folded start entries; began = began; spare = spare } ≡ keeper →
+    is_full keeper.journal ≡ false → IsKept began (journal_from folded start entries) clock →
     state_refusal clock entry.reading entry.cmd ≡ refusal → first_refusal keeper.journal entry ≡ refusal
-first_refusal-clocks folded spare start clock entries keeper entry refusal shows free held answer =
+first_refusal-clocks began folded spare start clock entries keeper entry refusal shows free held answer =
     subst (λ (k : Keeper). is_full k.journal ≡ false → first_refusal k.journal entry ≡ refusal) shows
     (λ room. first_refusal-state (journal_from folded start entries) clock entry.who entry.reading
     entry.cmd refusal held.running room answer)
     free
 
 -- a keeper whose clocks accepted a command: it consists of these parts, and `keeper` is its view
-module _ (folded spare : ℕ) (start before after : State) (entries : List Entry) (entry : Entry)
-    (keeper : Keeper)
+module _ (began : Beginning) (folded spare : ℕ) (start before after : State)
+    (entries : List Entry) (entry : Entry) (keeper : Keeper)
     (shows : ◌≡◌ {A = Keeper}
-    (record { journal = journal_from folded start entries; spare = spare }) keeper)
+    (record { journal = journal_from folded start entries; began = began; spare = spare }) keeper)
     (free : is_full keeper.journal ≡ false)
-    (held : IsKept (journal_from folded start entries) before)
+    (held : IsKept began (journal_from folded start entries) before)
     (done : (state_refusal before entry.reading entry.cmd ≡ None)
     × (after ≡ effect before entry.reading entry.cmd)) where
   abbrev journal : Journal
   journal = journal_from folded start entries
 
   accepted : first_refusal keeper.journal entry ≡ None
-  accepted = first_refusal-clocks folded spare start before entries keeper entry None shows free held
+  accepted = first_refusal-clocks began folded spare start before entries keeper entry None shows free held
       done.0
 
   pub running_entered : after ≡ state_of (followed_by journal entry)
   running_entered = running-accepted journal before after entry held.running done
 
-  pub kept_entered : IsKept (followed_by journal entry) after
-  kept_entered = IsKept-followed_by journal entry before after held
+  pub kept_entered : IsKept began (followed_by journal entry) after
+  kept_entered = IsKept-followed_by began journal entry before after held
       (subst (λ (k : Keeper). first_refusal k.journal entry ≡ None) (sym shows) accepted)
       running_entered
 

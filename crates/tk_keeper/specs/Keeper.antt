@@ -6,20 +6,28 @@ use Rattle.tk_clock.specs.Journal.{Journal, prefix, accepted_count}
 use Rattle.tk_clock.specs.Monotonic.{awake_cycles}
 use Rattle.tk_clock.specs.Clocks.{clock_value}
 use Rattle.tk_clock.specs.Honest.{IsHonest, counted_cycles}
-use Rattle.tk_clock.specs.Legal.{IsLegal}
+use Rattle.tk_clock.specs.Legal.{Beginning, Opened, Given, IsLegal}
 use Rattle.tk_clock.specs.Limits.{listed_most, counted_most}
 use Rattle.tk_clock.specs.State.{ReadBase, State, base_value, state_of}
+use Rattle.tk_keeper.specs.declared.timekeeper.GivenClocks.{GivenClocks}
 use Rattle.tk_keeper.specs.declared.timekeeper.Kept.{Kept}
 use Rattle.tk_keeper.specs.Runs.{IsKeptAt}
 
--- its journal, and the number of further commands that can be accepted without an allocation
+-- its journal, how its clocks began, and the number of further commands that can be accepted
+-- without an allocation
 pub record Keeper : Type 0 where
   pub journal : Journal
+  pub began : Beginning
   pub spare : ℕ
 
+-- how a keeper's clocks began: it opened them, unless it was given clocks
+abbrev pub began_with : Option GivenClocks → Beginning
+began_with None = Opened
+began_with (Some given) = Given given.front given.clock
+
 -- the journal is legal, the running state is the journal's, and the journal is within its limits
-pub record IsKept (journal : Journal) (state : State) : Type 0 where
-  pub legal : IsLegal journal
+pub record IsKept (began : Beginning) (journal : Journal) (state : State) : Type 0 where
+  pub legal : IsLegal began journal
   pub running : state ≡ state_of journal
   pub room : length journal.entries ≤ listed_most
   pub counted : accepted_count journal ≤ counted_most

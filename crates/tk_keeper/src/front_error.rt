@@ -1,11 +1,11 @@
 ghost use Rattle.std.specs.Prelude.{Some};
 ghost use Rattle.tk_keeper.specs.FrontError.{fault_text};
 
-use std::error::Error;
 use std::fmt;
+use thiserror::Error;
 
 /// States why a front has no snapshot. A front is the number of commands accepted up to then.
-#[derive(Clone, Copy, Debug, PartialEq, Eq)]
+#[derive(Clone, Copy, Debug, PartialEq, Eq, Error)]
 pub enum FrontError {
     /// The front is greater than the number of accepted commands.
     Unknown,
@@ -23,5 +23,3 @@ impl fmt::Display for FrontError {
         })
     }
 }
-
-impl Error for FrontError {}

@@ -3,6 +3,7 @@
 //! | Item | Its meaning |
 //! |---|---|
 //! | `Timekeeper` | the clocks and their journal: opens, changes, reads and folds them |
+//! | `GivenClocks` | clocks that ran already when a keeper was opened for them, and their front |
 //! | `FrontError` | why a front has no snapshot |
 //! | `TraceError` | why a list of stamps isn't converted |
 //! | `LISTED_LIMIT` | the most entries that a journal lists |
@@ -22,5 +23,5 @@ mod timekeeper;
 mod trace_error;
 
 pub use front_error::FrontError;
-pub use timekeeper::{KEEP_LIMIT, KEPT_EVERY, LISTED_LIMIT, Timekeeper, time_of};
+pub use timekeeper::{GivenClocks, KEEP_LIMIT, KEPT_EVERY, LISTED_LIMIT, Timekeeper, time_of};
 pub use trace_error::TraceError;

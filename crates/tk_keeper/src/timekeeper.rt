@@ -46,6 +46,17 @@ pub struct Timekeeper<A: Allocator = Global> {
     kept: Ring<Kept, A>,
     /// The clocks after the last accepted command.
     clock: Clock,
+    /// The clocks that the keeper was opened for, if they ran already.
+    given: Option<GivenClocks>,
+}
+
+/// Contains clocks that ran already when a keeper was opened for them.
+#[derive(Clone, Copy, Debug)]
+pub struct GivenClocks {
+    /// The clocks.
+    pub clock: Clock,
+    /// The number of commands that are counted as accepted before.
+    pub front: u64,
 }
 
 /// The clocks after an entry whose number is a multiple of `KEPT_EVERY`.
@@ -61,18 +72,19 @@ struct Kept {
 impl<A: Allocator> Model for Timekeeper<A> {
     ghost use Rattle.std.specs.Prelude.{◌+◌, ◌-◌, length};
     ghost use Rattle.tk_clock.specs.Folding.{journal_from};
-    ghost use Rattle.tk_keeper.specs.Keeper.{Keeper, IsKept, HasKept, room_for};
+    ghost use Rattle.tk_keeper.specs.Keeper.{Keeper, IsKept, HasKept, began_with, room_for};
 
     ghost Value = { Keeper };
 
     ghost view = { λ a. record {
       journal = journal_from a.folded a.start a.entries.items;
+      began = began_with a.given;
       spare = room_for (a.entries.capacity - length a.entries.items)
           (a.kept.capacity - length a.kept.items) (a.folded + length a.entries.items);
     } };
 
     ghost invariant = { λ a.
-        IsKept (journal_from a.folded a.start a.entries.items) a.clock
+        IsKept (began_with a.given) (journal_from a.folded a.start a.entries.items) a.clock
         × HasKept (journal_from a.folded a.start a.entries.items) a.start a.kept.items };
 }
 
@@ -89,16 +101,24 @@ impl<A: Allocator + Copy> Timekeeper<A> {
     ghost use Rattle.tk_clock.specs.Limits.{counted_most};
     ghost use Rattle.tk_clock.specs.Snapshot.{snapshot_of};
     ghost use Rattle.tk_clock.specs.State.{state_of};
-    ghost use Rattle.tk_keeper.specs.Keeper.{entry_at, ReadsAs, CountsTrue};
+    ghost use Rattle.tk_keeper.specs.Keeper.{began_with, entry_at, ReadsAs, CountsTrue};
     ghost use Rattle.tk_keeper.specs.Read.{IsRead};
 
     /// Returns the number of accepted commands, the folded ones included: the current front.
     pub fn len(&self) -> usize
         ensures value { result ≡ accepted_count self.now.journal }
         ensures most { result ≤ counted_most }
-        ensures legal { IsLegal self.now.journal }
+        ensures legal { IsLegal self.now.began self.now.journal }
     {
         self.folded as usize + self.entries.len()
+    }
+
+    /// Returns the clocks that the keeper was opened for, and the number of commands that were
+    /// counted as accepted before. `None` means that `open` opened its clocks.
+    pub fn given(&self) -> Option<GivenClocks>
+        ensures { began_with result ≡ self.now.began }
+    {
+        self.given
     }
 
     /// Returns the entry with this number, counted from 1.
@@ -137,7 +157,7 @@ impl<A: Allocator + Copy> Timekeeper<A> {
     /// than a later snapshot does.
     pub fn snapshot(&self) -> Snapshot
         ensures value { result ≡ snapshot_of self.now.journal }
-        ensures legal { IsLegal self.now.journal }
+        ensures legal { IsLegal self.now.began self.now.journal }
         ensures clocks { ReadsAs self.now.journal result.base }
         ensures honest { CountsTrue self.now.journal }
     {

@@ -4,8 +4,8 @@ ghost use Rattle.tk_keeper.specs.Trace.{fault_of_batch, place_of};
 ghost use Rattle.tk_keeper.specs.TraceError.{trace_text};
 
 use crate::front_error::FrontError;
-use std::error::Error;
 use std::fmt;
+use thiserror::Error;
 use tk_lanes::BatchError;
 
 /// States why a list of stamps isn't converted: the first item with a fault, or an allocation
@@ -13,7 +13,7 @@ use tk_lanes::BatchError;
 ///
 /// `index` is the item's place in the whole list, counted from 0. The faults of an item are listed
 /// in the order in which they are tested.
-#[derive(Clone, Copy, Debug, PartialEq, Eq)]
+#[derive(Clone, Copy, Debug, PartialEq, Eq, Error)]
 pub enum TraceError {
     /// The item's front is greater than the number of accepted commands.
     Unknown { index: usize },
@@ -67,5 +67,3 @@ impl fmt::Display for TraceError {
         }
     }
 }
-
-impl Error for TraceError {}

@@ -10,6 +10,7 @@ use Rattle.tk_clock.specs.declared.command.Entry.{Entry}
 use Rattle.tk_clock.specs.declared.refusal.Refusal.{Refusal}
 use Rattle.tk_clock.specs.declared.refusal.Refusal.TheVariants.{Full, Asleep, Awake, Invalid, Behind, Range, Memory}
 use Rattle.tk_clock.specs.Journal.{Journal, accepted_count, followed_by}
+use Rattle.tk_clock.specs.Legal.{Beginning}
 use Rattle.tk_clock.specs.Limits.{listed_most, counted_most}
 use Rattle.tk_clock.specs.Refusal.{first_refusal, is_full, state_refusal, IsRefusal}
 use Rattle.tk_clock.specs.State.{State, effect, state_of}
@@ -171,22 +172,28 @@ update-refusal who reading clock journal is room =
     (three-not-full journal room) refl
 
 -- room whose memory was asked for
-pub room-reserved : (count : ℕ) (before after : Journal) (clock : SteeredClock) (spare : ℕ)
-    (result : Result ⊤ Refusal) → has_room count before ≡ true → after ≡ before →
+pub room-reserved : (count : ℕ) (before after : Journal) (began : Beginning)
+    (clock : SteeredClock) (spare : ℕ) (result : Result ⊤ Refusal) → has_room count before ≡ true → after ≡ before →
     MatchResult result
     (λ _. min count (listed_most - length before.entries) ≤ spare)
     (λ refusal. (refusal ≡ Memory) × (spare < min count (listed_most - length before.entries))) →
     MatchResult result
     (λ _. (has_room count after ≡ true) × (count ≤ spare))
     (λ refusal. IsShort count
-    (record { logged = record { journal = after; clock = clock }; spare = spare }) refusal)
-room-reserved count before after clock spare (Ok done) e same answer =
+    (record {
+      logged = record { journal = after; began = began; clock = clock };
+      spare = spare;
+    }) refusal)
+room-reserved count before after began clock spare (Ok done) e same answer =
     let room = room-of count before e in
     (subst (λ j. has_room count j ≡ true) (sym same) e, omega (arith, room.0, answer))
-room-reserved count before after clock spare (Err refusal) e same answer =
+room-reserved count before after began clock spare (Err refusal) e same answer =
     let room = room-of count before e in
     subst (λ r. IsShort count
-    (record { logged = record { journal = after; clock = clock }; spare = spare }) r)
+    (record {
+      logged = record { journal = after; began = began; clock = clock };
+      spare = spare;
+    }) r)
     (sym answer.0)
     (IsOut (subst (λ j. has_room count j ≡ true) (sym same) e) (omega (arith, room.0, answer.1)))
 
@@ -205,15 +212,17 @@ once-entered : (who reading : ℕ) (first : Option Command) (before after : Stat
 once-entered who reading first before after journal tick frequency = rw (tick, frequency) refl
 
 -- an accepted update makes its own entry only
-pub update-moves : (who reading : ℕ) (clock next : SteeredClock) (journal after : Journal) →
+pub update-moves : (who reading : ℕ) (clock next : SteeredClock) (journal after : Journal)
+    (began began' : Beginning) → began' ≡ began →
     next ≡ after_command reading Update (effect clock.clock reading Update) clock →
     after ≡ entered who reading (Some Update) journal →
-    let logged : Logged = record { journal = journal; clock = clock } in
-    let end : Logged = record { journal = after; clock = next } in
+    let logged : Logged = record { journal = journal; began = began; clock = clock } in
+    let end : Logged = record { journal = after; began = began'; clock = next } in
     end ≡ moved who reading (Some Update) next logged
-update-moves who reading clock next journal after is entry =
+update-moves who reading clock next journal after began began' same is entry =
     let led = after_command reading Update (effect clock.clock reading Update) clock in
-    ap (λ (j : Journal). record { journal = j; clock = next })
+    ap (λ (b : Beginning). record { journal = after; began = b; clock = next }) same
+    ∙ ap (λ (j : Journal). record { journal = j; began = began; clock = next })
     (entry
     ∙ sym (once-entered who reading (Some Update) clock.clock led.clock journal
     (unless_same-self clock.clock.tick) (unless_same-self clock.clock.frequency))
@@ -235,7 +244,7 @@ pub unmoved : (who reading : ℕ) (logged : Logged) →
     logged ≡ moved who reading (tai_command clock.clock clock.clock) clock logged
 unmoved who reading logged =
     let clock = logged.clock.clock in
-    ap (λ (j : Journal). record { journal = j; clock = logged.clock })
+    ap (λ (j : Journal). record { journal = j; began = logged.began; clock = logged.clock })
     (sym (none-entered who reading (tai_command clock clock) clock logged.journal
     (ap (λ (b : Bool). if b then None else Some (Tai clock.base.tai))
     (int_eq_equiv.refl clock.base.tai))

@@ -87,6 +87,7 @@ abbrev pub seen : ℕ → Keeper → SteeredClock → SteeredKeeper
 seen early keeper steered = record {
   logged = record {
     journal = keeper.journal;
+    began = keeper.began;
     clock = current early (state_of keeper.journal) steered;
   };
   spare = keeper.spare;
@@ -114,27 +115,28 @@ module _ (who reading : ℕ) (before after : Keeper) (now : SteeredClock)
 
   abbrev before' : SteeredKeeper
   before' = record {
-    logged = record { journal = journal; clock = now };
+    logged = record { journal = journal; began = before.began; clock = now };
     spare = before.spare;
   }
 
-  pub update-followed : (next : SteeredClock) →
+  pub update-followed : (next : SteeredClock) → after.began ≡ before.began →
       next ≡ after_command reading Update (effect now.clock reading Update) now →
       IsSettled now reading →
       IsFollowedBy who reading Update before' (Ok tt) (record {
-        logged = record { journal = after.journal; clock = next };
+        logged = record { journal = after.journal; began = after.began; clock = next };
         spare = after.spare;
       })
-  update-followed next is settled =
+  update-followed next kept is settled =
       updated who reading before'
       (record {
-        logged = record { journal = after.journal; clock = next };
+        logged = record { journal = after.journal; began = after.began; clock = next };
         spare = after.spare;
       })
       (Ok tt) settled room
       (record {
         answer = (update-accepted, is);
-        entries = update-moves who reading now next journal after.journal is entry;
+        entries = update-moves who reading now next journal after.journal before.began after.began
+            kept is entry;
       })
       tt
 
@@ -205,12 +207,12 @@ module _ (who reading early cycles : ℕ) (before after : Keeper) (steered : Ste
       early-settled early reading state (state_of after.journal) steered h fewer-to
       (goes-on accepted entry)
 
-  pub early-followed : IsAccepted → IsEntry →
+  pub early-followed : IsAccepted → IsEntry → after.began ≡ before.began →
       IsFollowedBy who reading Update (seen early before steered) (Ok tt)
       (seen (early - cycles) after steered)
-  early-followed accepted entry =
+  early-followed accepted entry kept =
       update-followed who reading before after now running room accepted entry
-      (current (early - cycles) (state_of after.journal) steered) (early-next accepted entry)
+      (current (early - cycles) (state_of after.journal) steered) kept (early-next accepted entry)
       (settled-now accepted entry)
 
   pub early-refused : (refusal : Refusal) →
@@ -252,23 +254,23 @@ module _ (who reading early : ℕ) (before after : Keeper) (now next : SteeredCl
       (subst (λ (n : SteeredClock). current early moved-to n ≡ n) (sym next-is)
       (next-same early reading now none-refused))
 
-  pub first-followed : IsSettled now reading →
+  pub first-followed : after.began ≡ before.began → IsSettled now reading →
       IsFollowedBy who reading Update
       (record {
-        logged = record { journal = before.journal; clock = now };
+        logged = record { journal = before.journal; began = before.began; clock = now };
         spare = before.spare;
       })
       (Ok tt) (seen early after next)
-  first-followed settled =
+  first-followed kept settled =
       subst (λ (s : SteeredClock). IsFollowedBy who reading Update
       (record {
-        logged = record { journal = before.journal; clock = now };
+        logged = record { journal = before.journal; began = before.began; clock = now };
         spare = before.spare;
       })
       (Ok tt)
       (record {
-        logged = record { journal = after.journal; clock = s };
+        logged = record { journal = after.journal; began = after.began; clock = s };
         spare = after.spare;
       })) (sym first-same)
-      (update-followed who reading before after now running room accepted entry next next-is
+      (update-followed who reading before after now running room accepted entry next kept next-is
       settled)

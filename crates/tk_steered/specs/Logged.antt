@@ -8,14 +8,16 @@ use Rattle.tk_clock.specs.declared.refusal.Refusal.TheVariants.{Full, Memory}
 use Rattle.tk_clock.specs.declared.timespec.Timespec.{Timespec}
 use Rattle.tk_clock.specs.Folding.{journal_from}
 use Rattle.tk_clock.specs.Journal.{Journal, accepted_count, opened}
+use Rattle.tk_clock.specs.Legal.{Beginning, Opened, Given}
 use Rattle.tk_clock.specs.Limits.{listed_most, counted_most}
 use Rattle.tk_counter.specs.Counter.{Counter}
 use Rattle.tk_ntp.specs.SteeredClock.{SteeredClock, steered_opened}
 use Rattle.tk_steered.specs.Commands.{all_entered, commands_between}
 
--- the journal, and the clocks with their discipline
+-- the journal, how its clocks began, and the clocks with their discipline
 pub record Logged : Type 0 where
   pub journal : Journal
+  pub began : Beginning
   pub clock : SteeredClock
 
 -- the same, and the number of further commands that can be accepted without an allocation
@@ -27,6 +29,7 @@ pub record SteeredKeeper : Type 0 where
 abbrev pub logged_opened : Counter → ℕ → Timespec → ℕ → Logged
 logged_opened counter reading real hz = record {
   journal = opened counter reading real;
+  began = Opened;
   clock = steered_opened counter reading real hz;
 }
 
@@ -34,6 +37,7 @@ logged_opened counter reading real hz = record {
 abbrev pub logged_from : ℕ → SteeredClock → Logged
 logged_from front steered = record {
   journal = journal_from front steered.clock [];
+  began = Given front steered.clock;
   clock = steered;
 }
 
@@ -44,6 +48,7 @@ moved who reading first after logged = record {
   journal =
       all_entered who reading (commands_between first logged.clock.clock after.clock)
       logged.journal;
+  began = logged.began;
   clock = after;
 }
 

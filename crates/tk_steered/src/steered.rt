@@ -50,6 +50,7 @@ impl<A: Allocator> Model for Steered<A> {
     ghost view = { λ a. record {
       logged = record {
         journal = a.keeper.journal;
+        began = a.keeper.began;
         clock = current a.early (state_of a.keeper.journal) a.clock;
       };
       spare = a.keeper.spare;
@@ -131,7 +132,8 @@ impl<A: Allocator + Copy> Steered<A> {
     pub fn keeper(&self) -> &Timekeeper<A>
         ensures journal { result.now.journal ≡ self.now.logged.journal }
         ensures spare { result.now.spare ≡ self.now.spare }
-        ensures legal { IsLegal self.now.logged.journal }
+        ensures began { result.now.began ≡ self.now.logged.began }
+        ensures legal { IsLegal self.now.logged.began self.now.logged.journal }
     {
         // the journal is legal
         let _count = self.keeper.len();
@@ -143,7 +145,8 @@ impl<A: Allocator + Copy> Steered<A> {
     pub fn into_keeper(self) -> Timekeeper<A>
         ensures journal { result.journal ≡ self.logged.journal }
         ensures spare { result.spare ≡ self.spare }
-        ensures legal { IsLegal self.logged.journal }
+        ensures began { result.began ≡ self.logged.began }
+        ensures legal { IsLegal self.logged.began self.logged.journal }
         // the clocks are those that the discipline steered
         ensures running { state_of result.journal ≡ self.logged.clock.clock }
     {

@@ -39,6 +39,7 @@ impl<A: Allocator + Copy> Timekeeper<A> {
             × (self.new.journal ≡ followed_by self.old.journal entry)
             × (number ≡ accepted_count self.new.journal))
             (λ refusal. IsRefusal self.old.journal entry refusal × (self.new ≡ self.old)) }
+        ensures began { self.new.began ≡ self.old.began }
         ensures memory { IsErrOf result Refusal.Memory → self.old.spare ≡ 0 }
         ensures spare { IfOk result
             (λ _. 0 < self.old.spare → self.new.spare + 1 ≡ self.old.spare) }
@@ -63,7 +64,8 @@ impl<A: Allocator + Copy> Timekeeper<A> {
     fn apply_growing(&mut self, entry: Entry) -> Result<u64, Refusal>
         requires none { self.old.spare ≡ 0 }
         requires free { is_full self.old.journal ≡ false }
-        ensures { MatchResult result
+        ensures began { self.new.began ≡ self.old.began }
+        ensures answer { MatchResult result
             (λ number. (first_refusal self.old.journal entry ≡ None)
             × (self.new.journal ≡ followed_by self.old.journal entry)
             × (number ≡ accepted_count self.new.journal))
@@ -82,6 +84,7 @@ impl<A: Allocator + Copy> Timekeeper<A> {
             (λ _. 0 < self.new.spare)
             (λ refusal. (refusal ≡ Refusal.Memory) × (self.old.spare ≡ 0) × (self.new ≡ self.old)) }
         ensures journal { self.new.journal ≡ self.old.journal }
+        ensures began { self.new.began ≡ self.old.began }
         ensures spare { 0 < self.old.spare → self.new.spare ≡ self.old.spare }
     {
         if self.spare() == 0 {
@@ -108,6 +111,7 @@ impl<A: Allocator + Copy> Timekeeper<A> {
             × (number ≡ accepted_count self.new.journal))
             (λ refusal. (first_refusal self.old.journal entry ≡ Some refusal)
             × (self.new ≡ self.old)) }
+        ensures began { self.new.began ≡ self.old.began }
         ensures spare { IfOk result (λ _. self.new.spare + 1 ≡ self.old.spare) }
     {
         let after_run = self.is_after_run();
@@ -135,6 +139,7 @@ impl<A: Allocator + Copy> Timekeeper<A> {
             (λ _. wanted ≤ self.new.spare)
             (λ refusal. (refusal ≡ Refusal.Memory) × (self.new.spare < wanted)) }
         ensures journal { self.new.journal ≡ self.old.journal }
+        ensures began { self.new.began ≡ self.old.began }
         ensures spare { self.old.spare ≤ self.new.spare }
     {
         let places = extra.min(LISTED_LIMIT - self.entries.len());

@@ -51,13 +51,14 @@ impl<A: Allocator + Copy> Timekeeper<A> {
             (λ refusal. (counter_refusal self.old.journal reading desc first ≡ Some refusal)
             × (self.new ≡ self.old)) }
         ensures folded { IfOk result (λ number. self.new.journal.opening.count ≡ number) }
+        ensures began { self.new.began ≡ self.old.began }
         ensures spare { IfOk result (λ _. self.old.spare ≤ self.new.spare + 1) }
         // each clock at the change is the same before and after
         ensures agrees { IfOk result
             (λ _. AgreesOver self.old.journal reading self.new.journal first) }
         // no prefix, read in its life, returns more than the journal returns now at any reading
         ensures rises { IfOk result (λ _. RisesOver self.old.journal reading self.new.journal) }
-        ensures legal { IsLegal self.new.journal }
+        ensures legal { IsLegal self.new.began self.new.journal }
     {
         if self.len() as u64 >= COUNTED_LIMIT {
             return Err(Refusal::Full);
@@ -71,12 +72,13 @@ impl<A: Allocator + Copy> Timekeeper<A> {
     /// Replaces the clocks, and folds all commands and one more into the opening.
     fn begin_again(&mut self, clock: Clock)
         requires counted { accepted_count self.old.journal < counted_most }
-        requires starts { IsStart
+        requires starts { IsStart self.old.began
             (folded_opening (accepted_count self.old.journal + 1) clock) }
         requires steered { clock.base.mult
             ≡ multiplier clock.base.counter clock.frequency clock.tick }
         ensures journal { self.new.journal
             ≡ journal_from (accepted_count self.old.journal + 1) clock [] }
+        ensures began { self.new.began ≡ self.old.began }
         ensures spare { self.old.spare ≤ self.new.spare + 1 }
     {
         let places = self.entries.len();

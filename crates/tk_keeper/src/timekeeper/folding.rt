@@ -22,7 +22,8 @@ impl<A: Allocator + Copy> Timekeeper<A> {
         ensures journal { let before = self.old.journal in
             self.new.journal ≡ folded_by (result - before.opening.count) before }
         ensures same { IsFolded self.old.journal self.new.journal }
-        ensures legal { IsLegal self.new.journal }
+        ensures legal { IsLegal self.new.began self.new.journal }
+        ensures began { self.new.began ≡ self.old.began }
         ensures spare { self.old.spare ≤ self.new.spare }
     {
         let places = self.entries.len().saturating_sub(keep as usize);
@@ -34,6 +35,7 @@ impl<A: Allocator + Copy> Timekeeper<A> {
     fn fold_first(&mut self, places: usize)
         requires { places ≤ length self.old.journal.entries }
         ensures journal { self.new.journal ≡ folded_by places self.old.journal }
+        ensures began { self.new.began ≡ self.old.began }
         ensures spare { self.old.spare ≤ self.new.spare }
     {
         let start = self.clock_at(places);

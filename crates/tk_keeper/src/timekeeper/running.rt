@@ -17,7 +17,8 @@ impl<A: Allocator + Copy> Timekeeper<A> {
     /// `Refusal::Memory` if the memory for the results or the entries can't be allocated. In this
     /// case no event was applied, but `spare()` may have grown.
     pub fn run(&mut self, events: &[Entry]) -> Result<Vec<Result<u64, Refusal>, A>, Refusal>
-        ensures { MatchResult result
+        ensures began { self.new.began ≡ self.old.began }
+        ensures answer { MatchResult result
             (λ answers. (answers.items ≡ (run self.old.journal events.now).answers)
             × (self.new.journal ≡ (run self.old.journal events.now).journal))
             (λ refusal. (refusal ≡ Refusal.Memory) × (0 < length events.now)

@@ -95,6 +95,7 @@ fn enter_all<A: Allocator + Copy>(
         keeper.new.journal
         ≡ all_entered who reading (commands_between first before next.now.clock)
         keeper.old.journal }
+    ensures began { keeper.new.began ≡ keeper.old.began }
     ensures state { state_of keeper.new.journal ≡ next.now.clock }
     ensures spare { keeper.old.spare ≤ keeper.new.spare + 3 }
 {
@@ -115,6 +116,7 @@ fn enter<A: Allocator + Copy>(
     requires room { has_room 1 keeper.old.journal ≡ true }
     requires spare { 0 < keeper.old.spare }
     ensures journal { keeper.new.journal ≡ entered who reading cmd keeper.old.journal }
+    ensures began { keeper.new.began ≡ keeper.old.began }
     ensures spare { keeper.old.spare ≤ keeper.new.spare + 1 }
 {
     if let Some(cmd) = cmd {

@@ -20,6 +20,7 @@ impl<A: Allocator + Copy> Steered<A> {
         ensures journal { let before = self.old.logged.journal in
             self.new.logged.journal ≡ folded_by (result - before.opening.count) before }
         ensures same { IsFolded self.old.logged.journal self.new.logged.journal }
+        ensures began { self.new.logged.began ≡ self.old.logged.began }
         ensures clock { self.new.logged.clock ≡ self.old.logged.clock }
         ensures spare { self.old.spare ≤ self.new.spare }
     {

@@ -35,7 +35,7 @@ pub returns-then-spare-eq0-clause-agrees : goal.returns-then-spare-eq0-clause-ag
 returns-then-spare-eq0-clause-agrees g c =
     let entry : Entry = record { who = c.args.who; reading = c.args.reading; cmd = c.args.cmd } in
     agrees-accepted c.args.self.now.journal c.apply_growing.new.self.journal entry _
-    c.apply_growing.result c.apply_growing.ensures
+    c.apply_growing.result c.apply_growing.ensures.answer
 
 pub returns-then-spare-eq0-clause-rises : goal.returns-then-spare-eq0-clause-rises
 returns-then-spare-eq0-clause-rises g c = never_falls c.apply_growing.new.self.journal

@@ -1,7 +1,8 @@
-use Rattle.std.proofs.Common.{◌≡◌, ◌+◌, ◌∙◌, [], ap, arith}
+use Rattle.std.proofs.Common.{◌≡◌, ◌+◌, ◌∙◌, [], sym, ap, subst, arith}
 use Rattle.std.proofs.lemmas.List.{drop_all}
 use Rattle.tk_clock.specs.Journal.{accepted_count}
-use Rattle.tk_keeper.specs.Keeper.{Keeper}
+use Rattle.tk_clock.specs.Legal.{Beginning, IsStart, folded_opening}
+use Rattle.tk_keeper.specs.Keeper.{Keeper, began_with}
 use Rattle.tk_keeper.proofs.ChangeCounter.{IsKept-begun, HasKept-begun}
 use Rattle.tk_keeper.proofs.timekeeper.Timekeeper.begin_again.Goals as goal
 
@@ -20,8 +21,11 @@ invariant_of-self g c =
     c.discard-2.ensures.items
     ∙ drop_all c.len-kept.result keeper.kept.items (omega (arith, c.len-kept.ensures)) in
     let few = c.requires.counted in
+    let began = ap (λ (k : Keeper). k.began) c.self.view_is in
+    let starts = subst (λ (b : Beginning). IsStart b (folded_opening (count + 1) c.args.clock))
+    (sym began) c.requires.starts in
     rw (entries, kept, number) (
-      IsKept-begun (count + 1) c.args.clock c.requires.starts c.requires.steered
+      IsKept-begun (began_with keeper.given) (count + 1) c.args.clock starts c.requires.steered
           (omega (arith, few)),
       HasKept-begun (count + 1) c.args.clock c.requires.steered,
     )

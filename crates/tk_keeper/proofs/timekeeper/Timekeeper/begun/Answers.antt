@@ -1,4 +1,4 @@
-use Rattle.tk_clock.specs.Legal.{AtClocks}
+use Rattle.tk_keeper.specs.Keeper.{began_with}
 use Rattle.tk_keeper.proofs.ChangeCounter.{IsKept-begun, HasKept-begun}
 use Rattle.tk_keeper.proofs.timekeeper.Timekeeper.begun.Goals as goal
 
@@ -9,6 +9,7 @@ invariant_of-result g c =
     let clocks = c.frequency.ensures.clocks in
     let steered = clocks.running.steered in
     rw (c.new.ensures.items, c.new-2.ensures.items) (
-      IsKept-begun folded clock (AtClocks folded clock c.requires clocks) steered c.requires,
+      IsKept-begun (began_with c.args.given) folded clock (c.requires.starts clocks) steered
+          c.requires.counted,
       HasKept-begun folded clock steered,
     )

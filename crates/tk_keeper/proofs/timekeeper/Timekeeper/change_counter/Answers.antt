@@ -15,7 +15,7 @@ pub returns-in_err-change_counter-clause-answer : goal.returns-in_err-change_cou
 returns-in_err-change_counter-clause-answer g c =
     let keeper = c.self.inside in
     let journal = c.args.self.now.journal in
-    let running = running-shown keeper.folded _ keeper.start keeper.clock keeper.entries.items
+    let running = running-shown _ keeper.folded _ keeper.start keeper.clock keeper.entries.items
     c.args.self.now c.self.view_is c.self.invariant.0 in
     let room : accepted_count journal < counted_most = omega (arith, c.len.ensures.value) in
     let p = err_from_is_err_and c.from_residual.result c.from_residual.ensures.1 in
@@ -31,17 +31,18 @@ pub begin_again-requires-clause-starts : goal.begin_again-requires-clause-starts
 begin_again-requires-clause-starts g c =
     let keeper = c.self.inside in
     let journal = c.args.self.now.journal in
-    let running = running-shown keeper.folded _ keeper.start keeper.clock keeper.entries.items
+    let running = running-shown _ keeper.folded _ keeper.start keeper.clock keeper.entries.items
     c.args.self.now c.self.view_is c.self.invariant.0 in
     let stated = accepted-shown journal keeper.clock c.change_counter.new.self c.args.reading
     c.args.desc c.args.first running c.in_ok-change_counter.ensures.answer in
-    subst (λ (s : State). IsStart (folded_opening (accepted_count journal + 1) s)) (sym stated.1)
-    (IsStart-changed journal c.args.reading c.args.desc c.args.first c.len.ensures.legal
+    subst (λ (s : State). IsStart c.args.self.now.began (folded_opening (accepted_count journal + 1) s))
+    (sym stated.1)
+    (IsStart-changed c.args.self.now.began journal c.args.reading c.args.desc c.args.first c.len.ensures.legal
     c.change_counter.ensures.counter stated.0)
 
 pub returns-clause-answer : goal.returns-clause-answer
 returns-clause-answer g c =
-    let is = changed-shown c.self.inside.folded _ c.self.inside.start c.self.inside.clock _ _
+    let is = changed-shown _ c.self.inside.folded _ c.self.inside.start c.self.inside.clock _ _
     c.self.view_is c.self.invariant.0 _ c.args.reading c.args.desc c.args.first _
     c.in_ok-change_counter.ensures.answer c.begin_again.ensures.journal in
     let journal = c.args.self.now.journal in
@@ -56,7 +57,7 @@ returns-clause-answer g c =
 
 pub returns-clause-agrees : goal.returns-clause-agrees
 returns-clause-agrees g c =
-    let is = changed-shown c.self.inside.folded _ c.self.inside.start c.self.inside.clock _ _
+    let is = changed-shown _ c.self.inside.folded _ c.self.inside.start c.self.inside.clock _ _
     c.self.view_is c.self.invariant.0 _ c.args.reading c.args.desc c.args.first _
     c.in_ok-change_counter.ensures.answer c.begin_again.ensures.journal in
     subst (λ (j : Journal). AgreesOver c.args.self.now.journal c.args.reading j c.args.first)
@@ -65,7 +66,7 @@ returns-clause-agrees g c =
 
 pub returns-clause-rises : goal.returns-clause-rises
 returns-clause-rises g c =
-    let is = changed-shown c.self.inside.folded _ c.self.inside.start c.self.inside.clock _ _
+    let is = changed-shown _ c.self.inside.folded _ c.self.inside.start c.self.inside.clock _ _
     c.self.view_is c.self.invariant.0 _ c.args.reading c.args.desc c.args.first _
     c.in_ok-change_counter.ensures.answer c.begin_again.ensures.journal in
     subst (λ (j : Journal). RisesOver c.args.self.now.journal c.args.reading j) (sym is.1)

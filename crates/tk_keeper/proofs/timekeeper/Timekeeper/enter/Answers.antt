@@ -16,7 +16,7 @@ returns-in_err-apply-clause-answer g c =
     let keeper = c.self.inside in
     let p = err_from_is_err_and c.from_residual.result c.from_residual.ensures.1 in
     rw (p.1, p.2) (
-      first_refusal-clocks keeper.folded _ keeper.start keeper.clock keeper.entries.items c.args.self.now
+      first_refusal-clocks _ keeper.folded _ keeper.start keeper.clock keeper.entries.items c.args.self.now
           c.args.entry _ c.self.view_is c.requires.free c.self.invariant.0 c.in_err-apply.ensures.0,
       c.self.view_is,
     )
@@ -29,7 +29,7 @@ invariant_of-self-then-number-eq0 g c =
       clock = c.apply.new.self;
       after_run = c.is_after_run-after_run.result;
     } in
-    let running = running_entered keeper.folded _ keeper.start keeper.clock _ keeper.entries.items
+    let running = running_entered _ keeper.folded _ keeper.start keeper.clock _ keeper.entries.items
     c.args.entry c.args.self.now c.self.view_is c.requires.free c.self.invariant.0
     c.in_ok-apply.ensures in
     let marked = subst (λ (k : Keeper). EndsWithRun k.journal next) (sym c.self.view_is)
@@ -39,7 +39,7 @@ invariant_of-self-then-number-eq0 g c =
     omega (arith, longer, ap length c.push.ensures.items, c.if-number-eq0.true) in
     let more = HasKept-more journal c.args.entry keeper.start keeper.kept.items next
     c.self.invariant.1 running marked even in (
-      rw c.push.ensures.items (kept_entered keeper.folded _ keeper.start keeper.clock _
+      rw c.push.ensures.items (kept_entered _ keeper.folded _ keeper.start keeper.clock _
           keeper.entries.items c.args.entry c.args.self.now c.self.view_is c.requires.free
           c.self.invariant.0 c.in_ok-apply.ensures),
       rw (c.push.ensures.items, c.push-then-number-eq0.ensures.items) more,
@@ -49,7 +49,7 @@ pub invariant_of-self-else-number-eq0 : goal.invariant_of-self-else-number-eq0
 invariant_of-self-else-number-eq0 g c =
     let keeper = c.self.inside in
     let journal : Journal = journal_from keeper.folded keeper.start keeper.entries.items in
-    let kept = kept_entered keeper.folded _ keeper.start keeper.clock _ keeper.entries.items
+    let kept = kept_entered _ keeper.folded _ keeper.start keeper.clock _ keeper.entries.items
     c.args.entry c.args.self.now c.self.view_is c.requires.free c.self.invariant.0
     c.in_ok-apply.ensures in
     let longer = length_push keeper.entries.items c.args.entry in
@@ -65,7 +65,7 @@ answer : (g : Over) (c : After-len g) →
     (c.self.inside.folded + c.len.result)
 answer g c =
     let keeper = c.self.inside in
-    answer_entered keeper.folded _ keeper.start keeper.clock _ keeper.entries.items c.args.entry
+    answer_entered _ keeper.folded _ keeper.start keeper.clock _ keeper.entries.items c.args.entry
     c.args.self.now c.self.view_is c.requires.free c.self.invariant.0 c.in_ok-apply.ensures
     c.push.new.self.items _ c.push.ensures.items (ap (λ n. keeper.folded + n) c.len.ensures)
 

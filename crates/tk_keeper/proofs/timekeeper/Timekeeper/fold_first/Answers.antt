@@ -2,7 +2,7 @@ use Rattle.std.proofs.Common.{◌≡◌, ◌∙◌, ◌+◌, ◌≤◌, List, le
 use Rattle.tk_clock.specs.declared.command.Entry.{Entry}
 use Rattle.tk_clock.specs.Journal.{Journal, prefix}
 use Rattle.tk_clock.specs.State.{State, state_of}
-use Rattle.tk_keeper.specs.Keeper.{Keeper, IsKept}
+use Rattle.tk_keeper.specs.Keeper.{Keeper, IsKept, began_with}
 use Rattle.tk_keeper.proofs.Kept.{HasKept-folded}
 use Rattle.tk_keeper.proofs.Room.{IsKept-folded}
 use Rattle.tk_keeper.proofs.timekeeper.Timekeeper.fold_first.Goals as goal
@@ -23,9 +23,9 @@ invariant_of-self g c =
     c.discard.ensures.items in
     let inside : n ≤ length journal.entries =
     subst (λ (k : Keeper). n ≤ length k.journal.entries) (sym c.self.view_is) c.requires in
-    let kept = IsKept-folded journal n keeper.clock inside c.self.invariant.0 in
+    let kept = IsKept-folded (began_with keeper.given) journal n keeper.clock inside c.self.invariant.0 in
     let later = HasKept-folded journal n _ keeper.start keeper.kept.items inside
     c.self.invariant.0.legal.accepted (omega arith) c.self.invariant.1 in (
-      subst (λ (j : Journal). IsKept j keeper.clock) (sym same) kept,
+      subst (λ (j : Journal). IsKept (began_with keeper.given) j keeper.clock) (sym same) kept,
       rw (same, start, c.discard-2.ensures.items) later,
     )

@@ -28,6 +28,7 @@ events-preserved g c =
           c.apply.result held.answers
           (ap (λ (r : Run). r.answers) next) c.push_reserved.ensures.items;
       journal = held.journal ∙ ap (λ (r : Run). r.journal) next;
+      began = c.apply.ensures.began ∙ held.began;
       room = omega arith;
       spare = rw fewer
           (room_left before after event c.apply.result left c.apply.ensures.answer

@@ -10,6 +10,7 @@ invariant-events g l = record {
       ≡ l.answers.items ++ (run l.self.journal (drop l.event-index l.events)).answers;
   journal : (run l.fn.self.journal l.events).journal
       ≡ (run l.self.journal (drop l.event-index l.events)).journal;
+  began : l.self.began ≡ l.fn.self.began;
   room : vec_len l.answers + (length l.events - l.event-index) ≤ vec_capacity l.answers;
   spare : min (length l.events - l.event-index) (listed_most - length l.self.journal.entries)
       ≤ l.self.spare;

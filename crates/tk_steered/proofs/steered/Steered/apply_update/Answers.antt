@@ -44,7 +44,7 @@ returns-in-Ok g c =
     (cycles-to c.args.reading c.cycles_to-cycles.result now before c.self.view_is
     c.cycles_to-cycles.ensures) (omega (arith, c.if-cycles-self.false))
     (room-in now before c.self.view_is (c.is_ready.ensures c.if-not-is_ready.false).0)
-    c.in-Ok.ensures.answer.0 c.in-Ok.ensures.answer.1)
+    c.in-Ok.ensures.answer.0 c.in-Ok.ensures.answer.1 c.enter.ensures.began)
 
 pub returns-in-Err : goal.returns-in-Err
 returns-in-Err g c =

@@ -12,6 +12,7 @@ pub returns-then-spare-count-clause-answer : goal.returns-then-spare-count-claus
 returns-then-spare-count-clause-answer g c =
     let inside = c.self.inside in
     room-reserved c.args.count inside.keeper.journal c.reserve.new.self.journal
+    c.reserve.new.self.began
     (current inside.early (state_of c.reserve.new.self.journal) inside.clock) c.reserve.new.self.spare c.reserve.result
     (rw (ap (λ (k : SteeredKeeper). k.logged.journal) c.self.view_is) (sym c.if-not-has_room.ensures))
     c.reserve.ensures.journal c.reserve.ensures.answer

@@ -1,6 +1,7 @@
 use Rattle.std.proofs.Common.{◌∙◌, ap, sym, subst, Option, ℕ}
 use Rattle.tk_clock.specs.declared.command.Command.{Command}
 use Rattle.tk_clock.specs.Journal.{Journal}
+use Rattle.tk_clock.specs.Legal.{Beginning}
 use Rattle.tk_clock.specs.State.{State, state_of}
 use Rattle.tk_ntp.specs.SteeredClock.{SteeredClock, rate_in_force}
 use Rattle.tk_steered.specs.Commands.{Lead, all_entered, commands_between}
@@ -32,8 +33,10 @@ invariant_of-self g c = sym c.enter_all.ensures.state
 pub returns-clause-logged : goal.returns-clause-logged
 returns-clause-logged g c =
     let inside = c.self.inside in
-    let logged : Journal → Logged = λ j. record { journal = j; clock = c.args.next } in
-    ap logged (c.enter_all.ensures.journal
+    let logged : Journal → Beginning → Logged =
+    λ j b. record { journal = j; began = b; clock = c.args.next } in
+    ap (logged c.enter_all.new.keeper.journal) c.enter_all.ensures.began
+    ∙ ap (λ j. logged j inside.keeper.began) (c.enter_all.ensures.journal
     ∙ ap (λ (s : State). all_entered c.args.who c.args.reading
     (commands_between c.args.first s c.args.next.clock) inside.keeper.journal)
     (sym (current-clock inside.early (state_of inside.keeper.journal) inside.clock

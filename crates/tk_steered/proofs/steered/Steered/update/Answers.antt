@@ -59,6 +59,7 @@ returns-in-Ok g c =
     c.in-Ok.ensures.answer.0 c.in-Ok.ensures.answer.1
     (taken c.catch_up.new.self c.args.now held c.clock.result.now
     (state_of c.enter.new.self.journal) c.catch_up.ensures c.clock.ensures same)
+    c.enter.ensures.began
     (subst (λ (s : SteeredClock). IsSettled s c.args.reading) same c.requires.settled))
 
 pub returns-in-Err : goal.returns-in-Err
