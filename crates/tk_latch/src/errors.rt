@@ -1,11 +1,11 @@
 ghost use Rattle.std.specs.Prelude.{Some};
 ghost use Rattle.tk_latch.specs.Errors.{fault_text, full_text, moved_text};
 
-use std::error::Error;
 use std::fmt;
+use thiserror::Error;
 
 /// Says why a latch can't be opened: the first variant that applies, in this order.
-#[derive(Clone, Copy, Debug, PartialEq, Eq)]
+#[derive(Clone, Copy, Debug, PartialEq, Eq, Error)]
 pub enum LatchError {
     /// The number of readers is below 1 or above 64.
     Count,
@@ -24,11 +24,9 @@ impl fmt::Display for LatchError {
     }
 }
 
-impl Error for LatchError {}
-
 /// Says that a snapshot wasn't published, because 2^63 - 1 were, and the sequence can't count
 /// further.
-#[derive(Clone, Copy, Debug, PartialEq, Eq)]
+#[derive(Clone, Copy, Debug, PartialEq, Eq, Error)]
 pub struct PageFull;
 
 impl fmt::Display for PageFull {
@@ -39,11 +37,9 @@ impl fmt::Display for PageFull {
     }
 }
 
-impl Error for PageFull {}
-
 /// Says that a read returned no snapshot, because a publication was begun or made between its two
 /// loads of the sequence.
-#[derive(Clone, Copy, Debug, PartialEq, Eq)]
+#[derive(Clone, Copy, Debug, PartialEq, Eq, Error)]
 pub struct Moved {
     /// The sequence number that the first load found.
     pub first: u64,
@@ -58,5 +54,3 @@ impl fmt::Display for Moved {
         write!(f, "moved from {} to {}", self.first, self.last)
     }
 }
-
-impl Error for Moved {}

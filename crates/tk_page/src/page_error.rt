@@ -1,11 +1,11 @@
 ghost use Rattle.std.specs.Prelude.{Some};
 ghost use Rattle.tk_page.specs.PageError.{fault_text};
 
-use std::error::Error;
 use std::fmt;
+use thiserror::Error;
 
 /// Says why a page can't be opened.
-#[derive(Clone, Copy, Debug, PartialEq, Eq)]
+#[derive(Clone, Copy, Debug, PartialEq, Eq, Error)]
 pub enum PageError {
     /// An allocation for the page failed.
     Memory,
@@ -20,5 +20,3 @@ impl fmt::Display for PageError {
         })
     }
 }
-
-impl Error for PageError {}

@@ -1,5 +1,5 @@
 -- The knowledge that a command gives its caller.
-use Rattle.std.proofs.Common.{◌≡◌, ℕ, ◌+◌, ◌%◌, ◌^◌, [], ◌∷◌, length, refl, ◌∙◌, ap, arith, bit_and, subst, sym}
+use Rattle.std.proofs.Common.{◌≡◌, ℕ, ◌+◌, ◌%◌, ◌^◌, ◌≤◌, [], ◌∷◌, length, refl, ◌∙◌, ap, arith, bit_and, subst, sym}
 use Rattle.std.specs.Prelude.{None}
 use Rattle.std.proofs.lemmas.List.{length_push}
 use Rattle.std.proofs.lemmas.Nat.{and_le_r, and_mask}
@@ -24,7 +24,8 @@ use Rattle.tk_clock.proofs.Lists.{prefix_trans, prefix_length}
 use Rattle.tk_shared.proofs.Refused.{refused_after}
 
 module _ (page : TableId) (latch : LatchId) (held : Held) (is : IsHeld page latch held) (old : Known)
-    (answer : ℕ) (cmd : Command) (begins : Begins old.seen held.shown.journal) where
+    (answer : ℕ) (cmd : Command) (begins : Begins old.seen held.shown.journal)
+    (more : old.folded ≤ held.kept.opening.count) where
   abbrev pub reading : ℕ
   reading = bit_and answer held.mask
 
@@ -34,19 +35,20 @@ module _ (page : TableId) (latch : LatchId) (held : Held) (is : IsHeld page latc
 
   -- the reason of the refusal follows from the history
   pub reason : (refusal : Refusal) → IsRefusal held.kept (entry_of old reading cmd) refusal →
-      IsRefusalAfter held.shown.journal (entry_of old reading cmd) refusal
+      IsRefusalAfter held.kept.opening.count held.shown.journal (entry_of old reading cmd) refusal
   reason refusal is_refusal =
       refused_after held.shown.journal held.kept (entry_of old reading cmd) refusal is.whole is.kept
       is_refusal
 
   -- the caller has seen the history, after which its command was refused
   pub refused : (refusal : Refusal) → IsRefusal held.kept (entry_of old reading cmd) refusal →
-      IsRefused old (record old { seen = held.shown.journal }) cmd refusal
+      IsRefused old (record old { seen = held.shown.journal; folded = held.kept.opening.count }) cmd refusal
   refused refusal is_refusal = record {
     reading = reading;
     masked = let most = is.masked in let low = and_le_r answer held.mask in omega (arith, most, low);
     extends = begins;
     whole = is.whole;
+    folds = record { more = more; within = is.kept.within };
     reason = reason refusal is_refusal;
     counted = refl;
     learnt = refl;
@@ -64,6 +66,7 @@ module _ (page : TableId) (latch : LatchId) (held : Held) (is : IsHeld page latc
         seen = now.shown.journal;
         learnt = told_reader now.latched;
         noticed = noticed;
+        folded = held.kept.opening.count;
       }
 
   pub accepted : (number : ℕ) → IsPrefix old.learnt.publications held.latched.publications →
@@ -107,5 +110,10 @@ module _ (page : TableId) (latch : LatchId) (held : Held) (is : IsHeld page latc
           learnt = prefix_trans _ _ _ learnt (next ∷ [], refl);
           commands = subst (IsPrefix old.noticed.commands) (sym known.commands) known.begins;
           log = known.log;
+          folded = more;
+        };
+        folds = record {
+          more = more;
+          within = let low = is.kept.within in omega (arith, low, longer);
         };
       }

@@ -8,7 +8,7 @@ use Rattle.tk_page.specs.History.{Begins}
 use Rattle.tk_latch.specs.Latch.{LatchId}
 use Rattle.tk_shared.specs.Callers.{Known, made_by}
 use Rattle.tk_now.specs.Views.{Announcing}
-use Rattle.tk_shared.specs.Closing.{accepted_by, AreDifferent, HasNoticed, HaveListed, IsPartOf, IsClosed}
+use Rattle.tk_shared.specs.Closing.{accepted_by, AreDifferent, HasFolded, HasNoticed, HaveListed, IsPartOf, IsClosed}
 use Rattle.tk_shared.specs.History.{AreSnapshots}
 use Rattle.tk_shared.specs.Locked.{Held, IsAtRest, IsHeld}
 use Rattle.tk_shared.proofs.Counts.{all_counted}
@@ -31,8 +31,9 @@ pub closed : (page : TableId) (latch : LatchId) (notice : TableId) (held : Held)
     IsAtRest notice held.shown.journal notice_writer → AreDifferent callers →
     All (IsPartOf held.shown.journal) callers → All (HasNoticed notice_writer.commands) callers →
     HaveListed notice_writer.commands callers →
+    All (HasFolded held.kept.opening.count) callers →
     held.total ≡ accepted_by callers → IsClosed held.kept callers
-closed page latch notice held notice_writer callers is rest different parts noticed listed total =
+closed page latch notice held notice_writer callers is rest different parts noticed listed folded total =
     let history = held.shown.journal in
     let all : length history.entries ≡ accepted_by callers = sym is.counted ∙ total in
     record {
@@ -49,6 +50,7 @@ closed page latch notice held notice_writer callers is rest different parts noti
       noticed = noticed;
       listed = listed.each;
       known = listed.known;
+      folded = folded;
       own = all_counted history callers different parts all;
       counted = kept_count history held.kept is.whole is.kept ∙ all;
     }

@@ -72,3 +72,11 @@ held_folded page latch held more is few =
 pub folds_few : (folded listed keep result : ℕ) → result ≡ max folded (folded + listed - keep) →
     result - folded ≤ listed
 folds_few folded listed keep result stated = grind (arith, nat_tests)
+
+pub folds_more : (folded listed keep result : ℕ) → result ≡ max folded (folded + listed - keep) →
+    folded ≤ result
+folds_more folded listed keep result stated = grind (arith, nat_tests)
+
+pub folds_within : (folded listed keep result : ℕ) →
+    result ≡ max folded (folded + listed - keep) → result ≤ folded + listed
+folds_within folded listed keep result stated = grind (arith, nat_tests)

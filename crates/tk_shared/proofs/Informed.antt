@@ -1,5 +1,5 @@
 -- A caller that was informed of everything under the lock.
-use Rattle.std.proofs.Common.{◌≡◌, List, sym, ap, ◌∙◌, subst, arith}
+use Rattle.std.proofs.Common.{◌≡◌, ◌≤◌, List, sym, ap, ◌∙◌, subst, arith}
 use Rattle.atomic_table.specs.Seated.{TableId}
 use mathlib.Core.List.{IsPrefix}
 use Rattle.tk_clock.specs.Journal.{Journal}
@@ -38,17 +38,19 @@ known_by_trans one two three p q = record {
   learnt = prefix_trans _ _ _ p.learnt q.learnt;
   commands = prefix_trans _ _ _ p.commands q.commands;
   log = prefix_trans _ _ _ p.log q.log;
+  folded = let one_two = p.folded in let two_three = q.folded in omega (arith, one_two, two_three);
 }
 
 -- one caller that knows as much as another one, and maybe more answers
 pub knows_as_much : (one other : Known) → other.seen ≡ one.seen → other.learnt ≡ one.learnt →
     other.noticed.commands ≡ one.noticed.commands → IsPrefix one.noticed.log other.noticed.log →
-    IsKnownBy one other
-knows_as_much one other seen learnt commands log = record {
+    one.folded ≤ other.folded → IsKnownBy one other
+knows_as_much one other seen learnt commands log folded = record {
   seen = (ap (λ (j : Journal). j.opening) seen, as_prefix (ap (λ (j : Journal). j.entries) (sym seen)));
   learnt = as_prefix (ap (λ (l : Learnt). l.publications) (sym learnt));
   commands = as_prefix (sym commands);
   log = log;
+  folded = folded;
 }
   where
     as_prefix : {X : Type 0} {xs ys : List X} → xs ≡ ys → IsPrefix xs ys

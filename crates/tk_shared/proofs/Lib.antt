@@ -1,3 +1,4 @@
+pub mod ListedFolds
 pub mod Kept
 pub mod Snapshots
 pub mod Refused

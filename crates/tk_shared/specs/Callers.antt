@@ -1,5 +1,5 @@
 -- The knowledge of a caller, and the knowledge that a command adds.
-use Rattle.std.specs.Prelude.{◌≡◌, ℕ, zero, suc, ◌+◌, ◌<◌, ◌≤◌, ◌==◌, List, [], ◌∷◌, ◌++◌, length, count_by, Some, None}
+use Rattle.std.specs.Prelude.{◌≡◌, ◌⊎◌, ℕ, zero, suc, ◌+◌, ◌-◌, ◌<◌, ◌≤◌, ◌==◌, max, List, [], ◌∷◌, ◌++◌, length, count_by, Some, None}
 use mathlib.Core.List.{IsPrefix}
 use Rattle.tk_counter.specs.Counter.{mask}
 use Rattle.tk_clock.specs.declared.command.Command.{Command}
@@ -9,22 +9,22 @@ use Rattle.tk_clock.specs.declared.refusal.Refusal.TheVariants.{Full, Memory}
 use Rattle.tk_clock.specs.Journal.{Journal, followed_by}
 use Rattle.tk_clock.specs.Legal.{IsWhole}
 use Rattle.tk_clock.specs.Life.{NeverFalls}
-use Rattle.tk_clock.specs.Limits.{listed_most}
+use Rattle.tk_clock.specs.Limits.{listed_most, counted_most}
 use Rattle.tk_clock.specs.Monotonic.{monotonic}
 use Rattle.tk_clock.specs.Refusal.{clock_refusal}
 use Rattle.tk_clock.specs.Snapshot.{Snapshot, snapshot_of}
 use Rattle.tk_keeper.specs.Keeper.{ReadsAs}
 use Rattle.tk_page.specs.History.{Begins, Sight}
-use Rattle.atomic_table.specs.Seated.{TableId}
 use Rattle.tk_now.specs.Life.{AreReadings}
 use Rattle.tk_now.specs.Moments.{AreInLife, AreInOrder, AreInTurn}
 use Rattle.tk_now.specs.Views.{Noticed, opened_notice_writer, opened_notice_reader}
 use Rattle.tk_latch.specs.Latch.{LatchId, Learnt, mark_of, opened_reader}
+use Rattle.tk_shared.specs.Folds.{NoticeIds}
 use Rattle.tk_shared.specs.History.{AreSnapshots}
 
 -- a caller: its number, the number of its accepted commands, the number of its reads of the page,
--- the history as far as it has seen it, the publications of the latch that it knows, and the
--- readings that it knows of from the notice
+-- the history as far as it has seen it, the publications of the latch that it knows, the readings
+-- that it knows of from the notice, and the number of folded entries that it knows of
 pub record Known : Type 0 where
   pub id : ℕ
   pub accepted : ℕ
@@ -32,17 +32,19 @@ pub record Known : Type 0 where
   pub seen : Journal
   pub learnt : Learnt
   pub noticed : Noticed
+  pub folded : ℕ
 
 -- a caller, by its number, its count of accepted commands, and its knowledge from the page, the
--- latch and the notice
-abbrev pub known_of : ℕ → ℕ → Sight → Learnt → Noticed → Known
-known_of id accepted sight learnt noticed = record {
+-- latch, the notice and the list of folds
+abbrev pub known_of : ℕ → ℕ → Sight → Learnt → Noticed → ℕ → Known
+known_of id accepted sight learnt noticed folded = record {
   id = id;
   accepted = accepted;
   reads = sight.reads;
   seen = sight.journal;
   learnt = learnt;
   noticed = noticed;
+  folded = folded;
 }
 
 -- the number of these entries that a caller made
@@ -65,6 +67,13 @@ pub record IsKnownBy (one other : Known) : Type 0 where
   pub learnt : IsPrefix one.learnt.publications other.learnt.publications
   pub commands : IsPrefix one.noticed.commands other.noticed.commands
   pub log : IsPrefix one.noticed.log other.noticed.log
+  pub folded : one.folded ≤ other.folded
+
+-- a caller learnt under the lock how many entries are folded: no fewer than it knew of, and some of
+-- those that it has seen now
+pub record HasLearntFolds (old new : Known) : Type 0 where
+  pub more : old.folded ≤ new.folded
+  pub within : new.folded ≤ length new.seen.entries
 
 -- a call that read the page once, and returned the snapshot of the history that the caller has now
 -- seen, which extends the former one. The snapshot's clocks are the history's. Nothing else of the
@@ -78,6 +87,7 @@ pub record HasRead (old new : Known) (snapshot : Snapshot) : Type 0 where
   pub accepted : new.accepted ≡ old.accepted
   pub learnt : new.learnt ≡ old.learnt
   pub noticed : new.noticed ≡ old.noticed
+  pub folded : new.folded ≡ old.folded
 
 -- a caller that was informed of everything under the lock: it has seen a whole history, and knows
 -- all of its snapshots and the readings of all of its commands, in order. All callers' readings so
@@ -111,38 +121,57 @@ pub record IsAccepted (old new : Known) (cmd : Command) (answer : ℕ) : Type 0 
   pub mark : mark_of new.learnt.publications ≡ answer
   pub informed : IsInformed new
   pub known : IsKnownBy old new
+  pub folds : HasLearntFolds old new
 
--- why an entry is refused after a whole history: Full only if the history contains at least the
--- number of entries that a journal lists, Memory only if there is no other reason
-abbrev pub IsRefusalAfter : Journal → Entry → Refusal → Type 0
-IsRefusalAfter history entry Full = listed_most ≤ length history.entries
-IsRefusalAfter history entry Memory = clock_refusal history entry ≡ None
-IsRefusalAfter history entry refusal = clock_refusal history entry ≡ Some refusal
+-- a journal of this history is full when this number of entries is folded: it lists the most
+-- entries that it may, without the folded ones, or counts the most that it may
+abbrev pub IsFullAfter : ℕ → Journal → Type 0
+IsFullAfter folded history = (listed_most + folded ≤ length history.entries)
+    ⊎ (counted_most ≤ length history.entries)
 
--- a caller whose command was refused, after the history that it has seen now
+-- why an entry is refused after a whole history of which this number of entries is folded: Full only
+-- if its journal is full, Memory only if there is no other reason
+abbrev pub IsRefusalAfter : ℕ → Journal → Entry → Refusal → Type 0
+IsRefusalAfter folded history entry Full = IsFullAfter folded history
+IsRefusalAfter folded history entry Memory = clock_refusal history entry ≡ None
+IsRefusalAfter folded history entry refusal = clock_refusal history entry ≡ Some refusal
+
+-- a caller whose command was refused, after the history that it has seen now, and of which it knows
+-- now how many entries are folded
 pub record IsRefused (old new : Known) (cmd : Command) (refusal : Refusal) : Type 0 where
   pub reading : ℕ
   pub masked : reading ≤ mask new.seen.opening.counter
   pub extends : Begins old.seen new.seen
   pub whole : IsWhole new.seen
-  pub reason : IsRefusalAfter new.seen (entry_of old reading cmd) refusal
+  pub folds : HasLearntFolds old new
+  pub reason : IsRefusalAfter new.folded new.seen (entry_of old reading cmd) refusal
   pub counted : new.accepted ≡ old.accepted
   pub learnt : new.learnt ≡ old.learnt
   pub noticed : new.noticed ≡ old.noticed
 
+-- a caller that folded a history until it listed at most `keep` entries: before, `before` entries
+-- were folded, and no fewer than it knew of. The answer is their number now, and the caller knows it
+pub record IsFolded (old new : Known) (keep number : ℕ) : Type 0 where
+  pub before : ℕ
+  pub known : old.folded ≤ before
+  pub answer : number ≡ max before (length new.seen.entries - keep)
+  pub now : new.folded ≡ number
+  pub folds : HasLearntFolds old new
+
 -- a caller of a keeper that was just opened
-abbrev pub newcomer : LatchId → TableId → Journal → ℕ → Known
+abbrev pub newcomer : LatchId → NoticeIds → Journal → ℕ → Known
 newcomer latch notice opened id = record {
   id = id;
   accepted = 0;
   reads = 0;
   seen = opened;
   learnt = opened_reader latch (snapshot_of opened);
-  noticed = opened_notice_reader (opened_notice_writer notice opened.opening.reading);
+  noticed = opened_notice_reader (opened_notice_writer notice.commands opened.opening.reading);
+  folded = 0;
 }
 
 -- `count` of them, with the numbers 0, 1, and so on
-abbrev pub newcomers : LatchId → TableId → Journal → ℕ → List Known
+abbrev pub newcomers : LatchId → NoticeIds → Journal → ℕ → List Known
 newcomers latch notice opened zero = []
 newcomers latch notice opened (suc count) =
     newcomers latch notice opened count ++ newcomer latch notice opened count ∷ []

@@ -43,6 +43,10 @@ pub record HasNoticed (commands : List Taken) (caller : Known) : Type 0 where
 abbrev pub HasListed : List Answer → Known → Type 0
 HasListed log caller = IsPrefix caller.noticed.log log
 
+-- a caller knows of no more folded entries than these
+abbrev pub HasFolded : ℕ → Known → Type 0
+HasFolded folded caller = caller.folded ≤ folded
+
 -- these are all the readings that one of these callers knows of, or there are none
 abbrev pub IsKnownLog : List Answer → List Known → Type 0
 IsKnownLog log callers = (log ≡ [])
@@ -77,5 +81,6 @@ pub record IsClosed (journal : Journal) (callers : List Known) : Type 0 where
   pub noticed : All (HasNoticed commands) callers
   pub listed : All (HasListed log) callers
   pub known : IsKnownLog log callers
+  pub folded : All (HasFolded journal.opening.count) callers
   pub own : All (IsCounted history) callers
   pub counted : accepted_count journal ≡ accepted_by callers

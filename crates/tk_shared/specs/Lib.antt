@@ -1,3 +1,4 @@
+pub mod Folds
 pub mod History
 pub mod Callers
 pub mod Readings

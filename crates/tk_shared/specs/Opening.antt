@@ -14,24 +14,29 @@ use Rattle.tk_shared.specs.declared.fault.OpenError.TheVariants.{Count, Invalid,
 use Rattle.tk_shared.specs.declared.parts.Parts.{Parts}
 use Rattle.tk_shared.specs.declared.parts.Shared.{Shared}
 use Rattle.tk_shared.specs.declared.parts.Writers.{Writers}
+use Rattle.tk_shared.specs.Folds.{IsCounting, NoticeIds}
 
--- the prepared parts: the page, the latch, the notice, the ledger's name, the number of callers,
--- the journal without entries, and the capacity in commands
+-- the prepared parts: the page, the latch, the two notices, the ledger's name, the number of
+-- callers, the journal without entries, and the capacity in commands
 pub record Start : Type 0 where
   pub page : TableId
   pub latch : LatchId
-  pub notice : TableId
+  pub notice : NoticeIds
   pub ledger : ℕ
   pub callers : ℕ
   pub journal : Journal
   pub spare : ℕ
+
+-- the names of the two notices of these parts
+abbrev pub notices_of : Shared → NoticeIds
+notices_of shared = record { commands = shared.notice; folds = shared.folds }
 
 -- what `open` gets from these parts, with a ledger of this name, for this number of callers
 abbrev pub start_of : Parts → ℕ → ℕ → Start
 start_of parts ledger callers = record {
   page = parts.shared.page;
   latch = parts.shared.latch;
-  notice = parts.shared.notice;
+  notice = notices_of parts.shared;
   ledger = ledger;
   callers = callers;
   journal = parts.keeper.journal;
@@ -39,26 +44,31 @@ start_of parts ledger callers = record {
 }
 
 -- a type's names are the names of the prepared parts; every caller has one part of the ledger
-abbrev pub IsNamed : Start → TableId → LatchId → TableId → ℕ → ℕ → ℕ → Type 0
+abbrev pub IsNamed : Start → TableId → LatchId → NoticeIds → ℕ → ℕ → ℕ → Type 0
 IsNamed start page latch notice ledger parts callers =
     (start.page ≡ page) × (start.latch ≡ latch) × (start.notice ≡ notice)
     × (start.ledger ≡ ledger) × (start.callers ≡ parts) × (start.callers ≡ callers)
 
--- the page, the latch and the notice have these names
-abbrev pub AreNamed : TableId → LatchId → TableId → Shared → Type 0
+-- the page, the latch and the two notices have these names
+abbrev pub AreNamed : TableId → LatchId → NoticeIds → Shared → Type 0
 AreNamed page latch notice shared =
-    (shared.page ≡ page) × (shared.latch ≡ latch) × (shared.notice ≡ notice)
+    (shared.page ≡ page) × (shared.latch ≡ latch) × (shared.notice ≡ notice.commands)
+    × (shared.folds ≡ notice.folds)
 
--- these write them, and no command is in progress
-abbrev pub AreWriters : Shared → Writers → Type 0
-AreWriters shared writers =
+-- these write them, no command is in progress, and this number of entries is folded
+abbrev pub AreWriters : Shared → ℕ → Writers → Type 0
+AreWriters shared folded writers =
     (writers.page.page ≡ shared.page) × (writers.latch.latch ≡ shared.latch)
     × (writers.notice.notice ≡ shared.notice) × (writers.notice.since ≡ None)
+    × IsCounting shared.folds folded writers.folds
 
--- the name of no page and of no notice, and of no latch
+-- the name of no page, of no notices, and of no latch
 abbrev pub no_page : TableId
 no_page =
     record { words = 0; slots = 0; views_name = 0; atom = 0; block = 0; offset = 0; slot_names = [] }
+
+abbrev pub no_notices : NoticeIds
+no_notices = record { commands = no_page; folds = no_page }
 
 abbrev pub no_latch : LatchId
 no_latch = record { table = no_page; counter = record { bits = 0; mult = 0; shift = 0 } }
@@ -87,8 +97,8 @@ pub record IsOpened (counter : Counter) (real : Timespec) (journal : Journal) : 
   pub opened : journal ≡ opened counter reading real
   pub whole : IsWhole journal
 
--- a page and a latch that show the journal without entries, a reader for each caller, and the
--- writer of a notice that was opened at the journal's reading
+-- a page and a latch that show the journal without entries, a reader for each caller, the writer of
+-- a notice that was opened at the journal's reading, and a list without folds
 pub record IsReady (start : Start) (parts : Parts) : Type 0 where
   pub published : parts.writers.page ≡ record { page = start.page; journal = start.journal }
   pub seen : parts.viewer ≡ record { page = start.page; reads = 0; journal = start.journal }
@@ -96,7 +106,8 @@ pub record IsReady (start : Start) (parts : Parts) : Type 0 where
   pub learnt : parts.readers.items
       ≡ replicate start.callers (opened_reader start.latch (snapshot_of start.journal))
   pub announced : parts.writers.notice
-      ≡ opened_notice_writer start.notice start.journal.opening.reading
+      ≡ opened_notice_writer start.notice.commands start.journal.opening.reading
+  pub unfolded : IsCounting start.notice.folds 0 parts.writers.folds
   pub counter : start.latch.counter ≡ start.journal.opening.counter
   pub whole : IsWhole start.journal
   pub empty : start.journal.entries ≡ []

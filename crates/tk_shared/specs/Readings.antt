@@ -34,11 +34,12 @@ pub record EndsAtReading {C : Type 0} (answers : C → ℕ → ℕ → Type 0) (
   pub listed : commands ≡ older ++ taken from to entry.reading ∷ []
 
 -- a command of a caller was refused at a reading of a counter that followed an announcement, at
--- this moment, after this history
-pub record IsRefusedAtReading {C : Type 0} (answers : C → ℕ → ℕ → Type 0) (caller : Known)
-    (history : Journal) (cmd : Command) (refusal : Refusal) : Type 0 where
+-- this moment, after the history that it has seen now, and of which it knows how many entries are
+-- folded
+pub record IsRefusedAtReading {C : Type 0} (answers : C → ℕ → ℕ → Type 0) (caller now : Known)
+    (cmd : Command) (refusal : Refusal) : Type 0 where
   pub counter : C
   pub from : ℕ
   pub reading : ℕ
-  pub read : IsReading (λ c. answers c from) counter history.opening.counter reading
-  pub reason : IsRefusalAfter history (entry_of caller reading cmd) refusal
+  pub read : IsReading (λ c. answers c from) counter now.seen.opening.counter reading
+  pub reason : IsRefusalAfter now.folded now.seen (entry_of caller reading cmd) refusal

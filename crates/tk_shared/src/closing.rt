@@ -2,7 +2,7 @@
 ghost use Rattle.std.specs.Prelude.{◌≡◌, ◌+◌, ◌<◌, ◌≤◌, All, MatchResult, Some, length, vec_len};
 ghost use mathlib.Core.List.{IsPrefix};
 ghost use Rattle.tk_now.specs.Moments.{AreInLife, AreInTurn};
-ghost use Rattle.tk_shared.specs.Closing.{AreDifferent, HasListed, HasNoticed, HaveListed, IsClosed, IsPartOf, accepted_by};
+ghost use Rattle.tk_shared.specs.Closing.{AreDifferent, HasFolded, HasListed, HasNoticed, HaveListed, IsClosed, IsPartOf, accepted_by};
 ghost use Rattle.tk_shared.specs.Errors.{missing_debug, missing_text};
 ghost use Rattle.tk_shared.specs.History.{AreSnapshots};
 ghost use Rattle.tk_shared.specs.Opening.{AreNamed, AreWriters};
@@ -13,10 +13,10 @@ use crate::locked::Locked;
 use crate::named::Named;
 use crate::parts::{Shared, Writers};
 use crate::shared_keeper::SharedKeeper;
-use std::error::Error;
 use std::fmt;
 use std::sync::Wait;
 use std::sync::ledger::Share;
+use thiserror::Error;
 use tk_keeper::Timekeeper;
 
 /// Contains the parts of a closed keeper.
@@ -30,7 +30,7 @@ pub struct Closed<C: Counter> {
 
 /// Contains a keeper that stays open, because callers are missing, and the callers that were
 /// passed.
-#[derive(Drop)]
+#[derive(Drop, Error)]
 pub struct Missing<L: Named, C: Counter> {
     /// The keeper, which can be used as before.
     pub keeper: SharedKeeper<L, C>,
@@ -53,8 +53,6 @@ impl<L: Named, C: Counter> fmt::Display for Missing<L, C> {
         f.write_str("callers are missing")
     }
 }
-
-impl<L: Named, C: Counter> Error for Missing<L, C> {}
 
 impl<L: Named, C: Counter> SharedKeeper<L, C> {
     /// Closes the keeper, and returns its timekeeper and its counter. It must get all callers back.
@@ -91,7 +89,8 @@ impl<L: Named, C: Counter> SharedKeeper<L, C> {
             mut book,
             rest: mut all,
         } = locked.into_inner();
-        take_all(rt, &shared, &mut writers, &mut all, callers);
+        let folded = keeper.folded();
+        take_all(rt, &shared, &mut writers, folded, &mut all, callers);
         book.audit(&mut all);
         Ok(Closed { keeper, counter })
     }
@@ -102,11 +101,12 @@ fn take_all<L: Named, R: Wait>(
     rt: &R,
     shared: &Shared,
     writers: &mut Writers,
+    folded: u64,
     all: &mut Share<L>,
     callers: Vec<Caller<L>>,
 )
     requires named { AreNamed L.page L.latch L.notice shared.now }
-    requires writers { AreWriters shared.now writers.old }
+    requires writers { AreWriters shared.now folded writers.old }
     requires snapshots { AreSnapshots writers.old.page.journal writers.old.latch.publications }
     requires within { all.old.parts ≤ L.parts }
     ensures parts { all.new.parts ≡ all.old.parts + length callers.items }
@@ -115,9 +115,10 @@ fn take_all<L: Named, R: Wait>(
     ensures seen { All (IsPartOf writers.old.page.journal) callers.items }
     ensures noticed { All (HasNoticed writers.old.notice.commands) callers.items }
     ensures listed { HaveListed writers.old.notice.commands callers.items }
+    ensures folded { All (HasFolded folded) callers.items }
 {
     for caller in callers {
-        take_in(rt, shared, writers, all, caller);
+        take_in(rt, shared, writers, folded, all, caller);
     }
 }
 
@@ -127,16 +128,18 @@ fn take_in<L: Named, R: Wait>(
     rt: &R,
     shared: &Shared,
     writers: &mut Writers,
+    folded: u64,
     all: &mut Share<L>,
     caller: Caller<L>,
 )
     requires named { AreNamed L.page L.latch L.notice shared.now }
-    requires writers { AreWriters shared.now writers.old }
+    requires writers { AreWriters shared.now folded writers.old }
     requires snapshots { AreSnapshots writers.old.page.journal writers.old.latch.publications }
     ensures same { (writers.new.page ≡ writers.old.page) × (writers.new.latch ≡ writers.old.latch)
         × (writers.new.notice.notice ≡ writers.old.notice.notice)
         × (writers.new.notice.commands ≡ writers.old.notice.commands)
-        × (writers.new.notice.since ≡ writers.old.notice.since) }
+        × (writers.new.notice.since ≡ writers.old.notice.since)
+        × (writers.new.folds ≡ writers.old.folds) }
     ensures log { IsPrefix writers.old.notice.log writers.new.notice.log }
     ensures alive { AreInLife writers.old.notice.commands writers.new.notice.log }
     ensures turn { AreInTurn writers.new.notice.log }
@@ -145,11 +148,13 @@ fn take_in<L: Named, R: Wait>(
     ensures seen { IsPartOf writers.old.page.journal caller }
     ensures noticed { HasNoticed writers.old.notice.commands caller }
     ensures listed { HasListed writers.new.notice.log caller }
+    ensures folded { HasFolded folded caller }
 {
     let Caller {
         mut viewer,
         mut reader,
         notice_reader,
+        mut folds,
         share,
         id: _,
         accepted: _,
@@ -157,5 +162,6 @@ fn take_in<L: Named, R: Wait>(
     shared.page.tell(rt, &mut writers.page, &mut viewer);
     shared.latch.tell(&mut writers.latch, &mut reader);
     writers.notice.take_in(&shared.notice, notice_reader);
+    writers.folds.show(&shared.folds, &mut folds, folded);
     all.merge(share);
 }

@@ -2,11 +2,11 @@ ghost use Rattle.std.specs.Prelude.{◌≡◌, Some};
 ghost use Rattle.tk_shared.specs.Errors.{open_text};
 
 use crate::counter::Counter;
-use std::error::Error;
 use std::fmt;
+use thiserror::Error;
 
 /// Says why a keeper can't be opened: the first variant that applies, in this order.
-#[derive(Clone, Copy, Debug, PartialEq, Eq)]
+#[derive(Clone, Copy, Debug, PartialEq, Eq, Error)]
 pub enum OpenError {
     /// The number of callers is below 1 or above 64. The counter wasn't read.
     Count,
@@ -28,10 +28,9 @@ impl fmt::Display for OpenError {
     }
 }
 
-impl Error for OpenError {}
-
 /// Contains the reason why a keeper can't be opened, and the counter.
-#[derive(Debug, Drop)]
+#[derive(Debug, Drop, Error)]
+#[error_bound(C: fmt::Debug)]
 pub struct OpenFault<C: Counter> {
     /// The reason.
     pub error: OpenError,
@@ -56,5 +55,3 @@ impl<C: Counter> fmt::Display for OpenFault<C> {
         write!(f, "{}", self.error)
     }
 }
-
-impl<C: Counter + fmt::Debug> Error for OpenFault<C> {}

@@ -1,5 +1,5 @@
 //! Informs callers of everything while the keeper is open.
-ghost use Rattle.std.specs.Prelude.{◌≡◌};
+ghost use Rattle.std.specs.Prelude.{◌≡◌, ◌≤◌};
 ghost use mathlib.Core.List.{IsPrefix};
 ghost use Rattle.tk_page.specs.History.{Begins};
 ghost use Rattle.tk_latch.specs.Latch.{told_reader};
@@ -21,8 +21,10 @@ impl<L: Named, C: Counter> SharedKeeper<L, C> {
     /// readings of all commands and of all callers so far. The other one is informed of all this
     /// too.
     ///
-    /// No answer of `now` or `now_fast` that the caller gets afterwards is below one that the other
-    /// one got before (`now_never_falls`).
+    /// Under the conditions of `now`, no time of MONOTONIC that `now` or `now_fast` returns to the
+    /// caller afterwards is below one that the other one got before the call: `now_never_falls`
+    /// proves it from the clauses of this call. The conditions are that the keeper's commands read
+    /// the same counter, that the counter is honest, and that enough commands are accepted.
     ///
     /// It waits for the lock, and then it may wait for readers of the page. It reads no counter,
     /// publishes nothing and allocates nothing.
@@ -60,16 +62,25 @@ impl<L: Named, C: Counter> Locked<L, C> {
         ensures accepted { (caller.new.accepted ≡ caller.old.accepted)
             × (other.new.accepted ≡ other.old.accepted) }
     {
-        inform(rt, shared, &mut self.writers, other);
-        inform(rt, shared, &mut self.writers, caller);
+        let folded = self.keeper.folded();
+        inform(rt, shared, &mut self.writers, folded, other);
+        inform(rt, shared, &mut self.writers, folded, caller);
     }
 }
 
-/// Gives a caller the knowledge of all publications, of all commands and of all readings so far.
-fn inform<L: Named, R: Wait>(rt: &R, shared: &Shared, writers: &mut Writers, caller: &mut Caller<L>)
+/// Gives a caller the knowledge of all publications, of all commands, of all readings so far, and of
+/// the number of folded entries.
+pub(crate) fn inform<L: Named, R: Wait>(
+    rt: &R,
+    shared: &Shared,
+    writers: &mut Writers,
+    folded: u64,
+    caller: &mut Caller<L>,
+)
     requires named { AreNamed L.page L.latch L.notice shared.now }
-    requires writers { AreWriters shared.now writers.old }
-    ensures same { (writers.new.page ≡ writers.old.page) × (writers.new.latch ≡ writers.old.latch) }
+    requires writers { AreWriters shared.now folded writers.old }
+    ensures same { (writers.new.page ≡ writers.old.page) × (writers.new.latch ≡ writers.old.latch)
+        × (writers.new.folds ≡ writers.old.folds) }
     ensures notice { writers.new.notice
         ≡ record writers.old.notice { log = writers.new.notice.log } }
     ensures log { IsPrefix writers.old.notice.log writers.new.notice.log }
@@ -77,13 +88,16 @@ fn inform<L: Named, R: Wait>(rt: &R, shared: &Shared, writers: &mut Writers, cal
       seen = writers.old.page.journal;
       learnt = told_reader writers.old.latch;
       noticed = caller.new.noticed;
+      folded = folded;
     } }
     ensures informed { IsTold writers.new.notice caller.old.noticed caller.new.noticed }
     ensures begins { Begins caller.old.seen writers.old.page.journal }
     ensures extends { IsPrefix caller.old.learnt.publications writers.old.latch.publications }
+    ensures more { caller.old.folded ≤ folded }
 {
     shared.page.tell(rt, &mut writers.page, &mut caller.viewer);
     shared.latch.tell(&mut writers.latch, &mut caller.reader);
     let reader = &mut caller.notice_reader;
     writers.notice.tell(&shared.notice, reader);
+    writers.folds.show(&shared.folds, &mut caller.folds, folded);
 }

@@ -27,6 +27,7 @@ mod caller;
 mod closing;
 mod counter;
 mod fault;
+mod folds;
 mod following;
 mod lock;
 mod locked;

@@ -4,12 +4,13 @@ ghost use Rattle.tk_clock.specs.Folding.{folded_by};
 ghost use Rattle.tk_clock.specs.Journal.{accepted_count};
 ghost use Rattle.tk_clock.specs.Limits.{counted_most};
 ghost use Rattle.tk_now.specs.Moments.{IsAcceptedAt};
-ghost use Rattle.tk_shared.specs.Callers.{IsAccepted, IsRefused, IsSameCaller};
+ghost use Rattle.tk_shared.specs.Callers.{IsAccepted, IsFolded, IsInformed, IsKnownBy, IsRefused, IsSameCaller};
 ghost use Rattle.tk_shared.specs.Opening.{AreNamed};
 ghost use Rattle.tk_shared.specs.Readings.{EndsAtReading, IsRefusedAtReading};
 
 use crate::caller::Caller;
 use crate::counter::Counter;
+use crate::following::inform;
 use crate::named::Named;
 use crate::parts::{Shared, Writers};
 use std::marker::Model;
@@ -39,6 +40,7 @@ pub struct Locked<L: Named, C: Counter> {
 
 impl<L: Named, C: Counter> Model for Locked<L, C> {
     ghost use Rattle.std.specs.Prelude.{◌≡◌};
+    ghost use Rattle.tk_shared.specs.Folds.{IsCounting};
     ghost use Rattle.tk_shared.specs.Locked.{Guarded, held_of, IsAtRest, IsHeld};
 
     ghost Value = { Guarded };
@@ -49,13 +51,15 @@ impl<L: Named, C: Counter> Model for Locked<L, C> {
         IsHeld L.page L.latch
         (held_of c.keeper.journal c.writers.page c.writers.latch c.mask c.book.total)
         × (c.rest.parts ≡ 0) × (c.rest.amount ≡ 0)
-        × IsAtRest L.notice c.writers.page.journal c.writers.notice };
+        × IsAtRest L.notice.commands c.writers.page.journal c.writers.notice
+        × IsCounting L.notice.folds c.keeper.journal.opening.count c.writers.folds };
 }
 
 impl<L: Named, C: Counter> Locked<L, C> {
     /// Applies a caller's command at the counter's reading, and publishes it on the page and then
-    /// on the latch. No call between these two waits. The command is announced in the notice before
-    /// its reading, and the announcement ends after both publications.
+    /// on the latch, as `show_on_latch` requires. No call between these two waits. The command is
+    /// announced in the notice before its reading, and the announcement ends after both
+    /// publications, as `accept` requires.
     ///
     /// It reads the counter once, and waits for readers of the page. A refused command publishes
     /// nothing.
@@ -72,12 +76,15 @@ impl<L: Named, C: Counter> Locked<L, C> {
             (λ refusal. IsRefused caller.old caller.new cmd refusal × (self.new ≡ self.old)) }
         ensures reading { MatchResult result
             (λ _. EndsAtReading C.answers_after caller.new.seen caller.new.noticed.commands)
-            (λ refusal. IsRefusedAtReading C.answers_after caller.old caller.new.seen cmd refusal) }
+            (λ refusal. IsRefusedAtReading C.answers_after caller.old caller.new cmd refusal) }
         ensures seen { caller.new.seen ≡ self.new.history }
         ensures folded { self.new.journal.opening ≡ self.old.journal.opening }
         ensures same { IsSameCaller caller.old caller.new }
     {
         let (page, latch, notice) = (&shared.page, &shared.latch, &shared.notice);
+        let folded = self.keeper.folded();
+        let (folds, fold_reader) = (&mut self.writers.folds, &mut caller.folds);
+        folds.show(&shared.folds, fold_reader, folded);
         self.writers.notice.announce(notice);
         let reading = self.counter.read_after(self.writers.notice.look()) & self.mask;
         let who = caller.id;
@@ -94,7 +101,7 @@ impl<L: Named, C: Counter> Locked<L, C> {
         let snapshot = self.keeper.snapshot();
         let (publisher, viewer) = (&mut self.writers.page, &mut caller.viewer);
         publisher.publish_for(rt, page, entry, &snapshot, viewer);
-        show_on_latch(latch, &mut self.writers.latch, snapshot);
+        show_on_latch(latch, &mut self.writers.latch, snapshot, &self.writers.page);
         accept(
             notice,
             &mut self.writers.notice,
@@ -109,19 +116,40 @@ impl<L: Named, C: Counter> Locked<L, C> {
         Ok(number)
     }
 
-    /// Folds the oldest entries of the keeper's journal so that at most `keep` are listed, and
-    /// returns the number of folded entries. It publishes nothing.
-    pub(crate) fn fold(&mut self, keep: u64) -> u64
+    /// Informs a caller of everything, folds the oldest entries of the keeper's journal so that at
+    /// most `keep` are listed, and returns the number of folded entries. It publishes nothing.
+    ///
+    /// It waits for readers of the page.
+    pub(crate) fn fold<R: Wait>(
+        &mut self,
+        rt: &R,
+        shared: &Shared,
+        caller: &mut Caller<L>,
+        keep: u64,
+    ) -> u64
+        requires named { AreNamed L.page L.latch L.notice shared.now }
         ensures answer { let before = self.old.journal in
             result ≡ max before.opening.count (accepted_count before - keep) }
         ensures journal { let before = self.old.journal in
             self.new.journal ≡ folded_by (result - before.opening.count) before }
         ensures history { self.new.history ≡ self.old.history }
         ensures counted { result ≤ counted_most }
+        ensures folded { IsFolded caller.old caller.new keep result }
+        ensures informed { IsInformed caller.new }
+        ensures known { IsKnownBy caller.old caller.new }
+        ensures seen { caller.new.seen ≡ self.new.history }
+        ensures same { IsSameCaller caller.old caller.new }
+        ensures accepted { caller.new.accepted ≡ caller.old.accepted }
     {
+        let before = self.keeper.folded();
+        inform(rt, shared, &mut self.writers, before, caller);
         // Shows that the number of accepted commands is that small.
         let _ = self.keeper.len();
-        self.keeper.fold(keep)
+        let folded = self.keeper.fold(keep);
+        let (fold_writer, fold_reader) = (&mut self.writers.folds, &mut caller.folds);
+        fold_writer.list(&shared.folds, folded - before);
+        fold_writer.show(&shared.folds, fold_reader, folded);
+        folded
     }
 }
 
@@ -147,9 +175,11 @@ fn accept(
     writer.accept(notice, reading);
 }
 
-/// Publishes the next snapshot on the latch. The latch can count one publication for every command
-/// that a journal counts.
-fn show_on_latch(latch: &Latch, writer: &mut LatchWriter, snapshot: Snapshot)
+/// Publishes the next snapshot on the latch, after the page shows its command: then no publication
+/// that a fast read finds is missing on the page. The latch can count one publication for every
+/// command that a journal counts.
+fn show_on_latch(latch: &Latch, writer: &mut LatchWriter, snapshot: Snapshot, publisher: &Publisher)
+    requires on_page { length publisher.now.journal.entries ≡ length writer.old.publications }
     requires latch { writer.old.latch ≡ latch.now }
     requires counter { snapshot.base.counter ≡ latch.now.counter }
     requires number { snapshot.front ≡ length writer.old.publications }

@@ -51,7 +51,8 @@ impl<L: Named, C: Counter> SharedKeeper<L, C> {
         ensures clocks { ReadsAs caller.new.seen (base_of caller.new.seen) }
         ensures same { (caller.new.id ≡ caller.old.id)
             × (caller.new.accepted ≡ caller.old.accepted)
-            × (caller.new.learnt ≡ caller.old.learnt) }
+            × (caller.new.learnt ≡ caller.old.learnt)
+            × (caller.new.folded ≡ caller.old.folded) }
     {
         let (viewer, notice_reader) = (&mut caller.viewer, &mut caller.notice_reader);
         time_seen(rt, &self.shared, viewer, notice_reader, counter, clock)
@@ -91,7 +92,8 @@ impl<L: Named, C: Counter> SharedKeeper<L, C> {
         ensures same { (caller.new.id ≡ caller.old.id)
             × (caller.new.accepted ≡ caller.old.accepted)
             × (caller.new.reads ≡ caller.old.reads)
-            × (caller.new.seen ≡ caller.old.seen) }
+            × (caller.new.seen ≡ caller.old.seen)
+            × (caller.new.folded ≡ caller.old.folded) }
     {
         let (reader, notice_reader) = (&mut caller.reader, &mut caller.notice_reader);
         time_by(&self.shared, reader, notice_reader, counter, clock)

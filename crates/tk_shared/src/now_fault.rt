@@ -1,15 +1,15 @@
 ghost use Rattle.std.specs.Prelude.{Some};
 ghost use Rattle.tk_shared.specs.Errors.{late_text, now_text};
 
-use std::error::Error;
 use std::fmt;
+use thiserror::Error;
 use tk_clock::ReadError;
 
 /// Says why `now_fast` returned no time.
-#[derive(Clone, Copy, Debug, PartialEq, Eq)]
+#[derive(Clone, Copy, Debug, PartialEq, Eq, Error)]
 pub enum NowFault {
     /// The clock refuses the reading.
-    Refused(ReadError),
+    Refused(#[source] ReadError),
     /// A publication was begun or made while the latch was read.
     Moved(tk_latch::Moved),
     /// A command was in progress while the counter was read.
@@ -23,7 +23,7 @@ pub enum NowFault {
 }
 
 /// Contains the two numbers of commands that differ.
-#[derive(Clone, Copy, Debug, PartialEq, Eq)]
+#[derive(Clone, Copy, Debug, PartialEq, Eq, Error)]
 pub struct Late {
     /// The number of the publication that was read from the latch.
     pub front: u64,
@@ -55,7 +55,3 @@ impl fmt::Display for Late {
         )
     }
 }
-
-impl Error for NowFault {}
-
-impl Error for Late {}

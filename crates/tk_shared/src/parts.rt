@@ -1,5 +1,6 @@
 //! The parts of a shared keeper.
 
+use crate::folds::FoldWriter;
 use tk_keeper::Timekeeper;
 use tk_latch::{Latch, LatchReader, LatchWriter};
 use tk_now::{Notice, NoticeWriter};
@@ -11,9 +12,11 @@ pub(crate) struct Shared {
     pub(crate) page: Page,
     pub(crate) latch: Latch,
     pub(crate) notice: Notice,
+    /// Lists the folds.
+    pub(crate) folds: Notice,
 }
 
-/// Contains what writes the page, the latch and the notice, under the lock.
+/// Contains what writes the page, the latch and the two notices, under the lock.
 #[derive(Drop)]
 pub(crate) struct Writers {
     /// Publishes accepted commands on the page.
@@ -22,6 +25,8 @@ pub(crate) struct Writers {
     pub(crate) latch: LatchWriter,
     /// Announces commands in the notice.
     pub(crate) notice: NoticeWriter,
+    /// Lists the folds.
+    pub(crate) folds: FoldWriter,
 }
 
 /// Contains a keeper whose clocks were just opened, with what shows its snapshots.

@@ -7,6 +7,7 @@ ghost use Rattle.tk_shared.specs.Readings.{IsReading};
 
 use crate::counter::Counter;
 use crate::fault::{OpenError, OpenFault};
+use crate::folds::FoldWriter;
 use crate::parts::{Parts, Shared, Writers};
 use std::alloc::{AllocError, Global};
 use std::marker::Model;
@@ -103,7 +104,7 @@ pub fn prepare<C: Counter, R: Wait>(
     })
 }
 
-/// Makes a page, a latch and a notice for a keeper whose clocks were just opened, and reserves
+/// Makes a page, a latch and two notices for a keeper whose clocks were just opened, and reserves
 /// capacity for `room` commands.
 fn assemble<R: Wait>(
     alloc: Global,
@@ -131,15 +132,18 @@ fn assemble<R: Wait>(
         return Err(AllocError);
     };
     let (notice, notice_writer) = Notice::open(alloc, snapshot.last())?;
+    let (folds, fold_writer) = FoldWriter::open(alloc)?;
     let shared = Shared {
         page,
         latch,
         notice,
+        folds,
     };
     let writers = Writers {
         page: publisher,
         latch: latch_writer,
         notice: notice_writer,
+        folds: fold_writer,
     };
     Ok(Parts {
         keeper,

@@ -1,17 +1,19 @@
-//! The lock, the page, the latch and the notice, and the calls on them.
+//! The lock, the page, the latch and the notices, and the calls on them.
 ghost use Rattle.std.specs.Prelude.{◌≡◌, ◌+◌, ◌≤◌, length, replicate, IfOk, MatchResult};
 ghost use mathlib.Core.List.{IsPrefix};
 ghost use Rattle.tk_clock.specs.Limits.{counted_most};
 ghost use Rattle.tk_clock.specs.Snapshot.{snapshot_of};
 ghost use Rattle.tk_latch.specs.Latch.{IsRead, IsMoved, opened_reader};
 ghost use Rattle.tk_now.specs.Views.{opened_notice_writer};
-ghost use Rattle.tk_shared.specs.Callers.{HasRead, IsAccepted, IsRefused, IsSameCaller, newcomers};
+ghost use Rattle.tk_shared.specs.Callers.{HasRead, IsAccepted, IsFolded, IsInformed, IsKnownBy, IsRefused, IsSameCaller, newcomers};
+ghost use Rattle.tk_shared.specs.Folds.{IsCounting};
 ghost use Rattle.tk_shared.specs.Opening.{AreNamed, IsNamed, most_callers};
 ghost use Rattle.tk_shared.specs.Readings.{EndsAtReading, IsRefusedAtReading};
 
 use crate::caller::Caller;
 use crate::counter::Counter;
 use crate::fault::{OpenError, OpenFault};
+use crate::folds::FoldWriter;
 use crate::lock::take;
 use crate::locked::Locked;
 use crate::named::Named;
@@ -77,8 +79,9 @@ impl<L: Named, C: Counter> SharedKeeper<L, C> {
         } = prepared.parts;
         let callers = readers.len();
         let (book, mut rest) = prepared.blank.open::<L>();
-        let writer = &mut writers.notice;
-        let Ok(made) = make_callers(alloc, &shared, viewer, readers, writer, &mut rest) else {
+        let (writer, folds) = (&mut writers.notice, &mut writers.folds);
+        let Ok(made) = make_callers(alloc, &shared, viewer, readers, writer, folds, &mut rest)
+        else {
             return Err(OpenFault::new(OpenError::Memory, prepared.counter));
         };
         let locked = Locked {
@@ -121,7 +124,7 @@ impl<L: Named, C: Counter> SharedKeeper<L, C> {
             (λ refusal. IsRefused caller.old caller.new cmd refusal) }
         ensures reading { MatchResult result
             (λ _. EndsAtReading C.answers_after caller.new.seen caller.new.noticed.commands)
-            (λ refusal. IsRefusedAtReading C.answers_after caller.old caller.new.seen cmd refusal) }
+            (λ refusal. IsRefusedAtReading C.answers_after caller.old caller.new cmd refusal) }
         ensures same { IsSameCaller caller.old caller.new }
     {
         take(rt, &self.locked).command(rt, &self.shared, caller, cmd)
@@ -159,22 +162,26 @@ impl<L: Named, C: Counter> SharedKeeper<L, C> {
             × (caller.new.accepted ≡ caller.old.accepted)
             × (caller.new.reads ≡ caller.old.reads)
             × (caller.new.seen ≡ caller.old.seen)
-            × (caller.new.noticed ≡ caller.old.noticed) }
+            × (caller.new.noticed ≡ caller.old.noticed)
+            × (caller.new.folded ≡ caller.old.folded) }
     {
         caller.reader.try_read(&self.shared.latch)
     }
 
     /// Folds the oldest entries of the journal so that at most `keep` are listed, and returns the
-    /// number of folded entries.
+    /// number of folded entries, which the caller then knows.
     ///
-    /// It waits for the lock. It publishes nothing, and no reader's answers change.
-    ///
-    /// The clause states only the number's bound: the lock hides the journal, and the call has no
-    /// caller who could have seen it. The clauses of `Locked::fold`, which does the work, state it.
-    pub fn fold<R: Wait>(&self, rt: &R, keep: u64) -> u64
+    /// It waits for the lock, and then it may wait for readers of the page, because it informs the
+    /// caller as `follow` does. It publishes nothing, and no reader's answers change.
+    pub fn fold<R: Wait>(&self, rt: &R, caller: &mut Caller<L>, keep: u64) -> u64
+        ensures folded { IsFolded caller.old caller.new keep result }
         ensures counted { result ≤ counted_most }
+        ensures informed { IsInformed caller.new }
+        ensures known { IsKnownBy caller.old caller.new }
+        ensures same { IsSameCaller caller.old caller.new }
+        ensures accepted { caller.new.accepted ≡ caller.old.accepted }
     {
-        take(rt, &self.locked).fold(keep)
+        take(rt, &self.locked).fold(rt, &self.shared, caller, keep)
     }
 }
 
@@ -185,6 +192,7 @@ fn make_callers<L: Named>(
     viewer: Viewer,
     readers: Vec<LatchReader>,
     writer: &mut NoticeWriter,
+    folds: &mut FoldWriter,
     shares: &mut Share<L>,
 ) -> Result<Vec<Caller<L>>, AllocError>
     requires named { AreNamed L.page L.latch L.notice shared.now }
@@ -194,11 +202,12 @@ fn make_callers<L: Named>(
         ≡ replicate (length readers.items) (opened_reader L.latch (snapshot_of viewer.journal)) }
     requires few { length readers.items ≤ most_callers }
     requires writer { writer.old
-        ≡ opened_notice_writer L.notice viewer.journal.opening.reading }
+        ≡ opened_notice_writer L.notice.commands viewer.journal.opening.reading }
+    requires folds { IsCounting L.notice.folds 0 folds.old }
     requires shares { (shares.old.parts ≡ length readers.items) × (shares.old.amount ≡ 0) }
     ensures callers { IfOk result (λ callers.
         callers.items ≡ newcomers L.latch L.notice viewer.journal (length readers.items)) }
-    ensures writer { writer.new ≡ writer.old }
+    ensures writer { (writer.new ≡ writer.old) × (folds.new ≡ folds.old) }
     ensures shares { IfOk result (λ _. (shares.new.parts ≡ 0) × (shares.new.amount ≡ 0)) }
 {
     let mut viewer = viewer;
@@ -211,6 +220,7 @@ fn make_callers<L: Named>(
             viewer: mine,
             reader,
             notice_reader: shared.notice.reader(writer),
+            folds: folds.reader(&shared.folds),
             share: shares.split_off(1, 0),
             id,
             accepted: 0,

@@ -1,16 +1,16 @@
 ghost use Rattle.std.specs.Prelude.{Some};
 ghost use Rattle.tk_shared_steered.specs.Errors.{fault_text};
 
-use std::error::Error;
 use std::fmt;
+use thiserror::Error;
 use tk_clock::Refusal;
 use tk_shared::{Caller, Named};
 
 /// Says why a call of a discipline over shared clocks stopped.
-#[derive(Clone, Copy, Debug, PartialEq, Eq)]
+#[derive(Clone, Copy, Debug, PartialEq, Eq, Error)]
 pub enum SteeringFault {
     /// The keeper refused a command, or the discipline can't be opened for this reason.
-    Refused(Refusal),
+    Refused(#[source] Refusal),
     /// Another caller's command was accepted, so the discipline doesn't know the clocks any more.
     Foreign,
 }
@@ -25,8 +25,6 @@ impl fmt::Display for SteeringFault {
         })
     }
 }
-
-impl Error for SteeringFault {}
 
 /// Contains the reason why no discipline was opened, and the caller.
 #[derive(Drop)]

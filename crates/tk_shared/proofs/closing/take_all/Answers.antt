@@ -4,7 +4,7 @@ use Rattle.tk_page.specs.History.{History}
 use Rattle.tk_clock.proofs.Lists.{prefix_self, prefix_trans}
 use Rattle.tk_now.specs.declared.rule.Taken.{Taken}
 use Rattle.tk_now.specs.Moments.{AreInLife}
-use Rattle.tk_shared.specs.Closing.{HasListed, HasNoticed, IsPartOf, accepted_by}
+use Rattle.tk_shared.specs.Closing.{HasFolded, HasListed, HasNoticed, IsPartOf, accepted_by}
 use Rattle.tk_shared.proofs.Counts.{accepted-cons, all_first}
 use Rattle.tk_shared.proofs.Listed.{have_listed}
 use Rattle.tk_shared.proofs.closing.take_all.Goals as goal
@@ -40,6 +40,7 @@ loop-caller-preserved g c =
         t.same.2 ∙ i.same.2,
         t.same.3 ∙ i.same.3,
         t.same.4 ∙ i.same.4,
+        t.same.5 ∙ i.same.5,
       );
       parts = omega (arith, joined, longer, parts);
       within = t.parts.1;
@@ -48,6 +49,8 @@ loop-caller-preserved g c =
           (all_first (IsPartOf history) caller rest first others));
       noticed = λ others. i.noticed (subst (All (HasNoticed commands)) (sym step)
           (all_first (HasNoticed commands) caller rest known others));
+      folded = λ others. i.folded (subst (All (HasFolded c.args.folded)) (sym step)
+          (all_first (HasFolded c.args.folded) caller rest t.folded others));
       listed = (
         log,
         prefix_self log,
@@ -70,6 +73,7 @@ loop-caller-init g c =
       amount = search rules;
       seen = λ all. subst (All (IsPartOf c.args.writers.now.page.journal)) items all;
       noticed = λ all. subst (All (HasNoticed c.args.writers.now.notice.commands)) items all;
+      folded = λ all. subst (All (HasFolded c.args.folded)) items all;
       listed = (
         [],
         (c.args.writers.now.notice.log, refl),
@@ -90,3 +94,8 @@ returns-clause-listed g c =
     let w = c.loop-caller.invariant.listed in
     let all = w.4 w.0 (prefix_self w.0) (λ k d low. absurd (omega (arith, none, low))) in
     have_listed c.args.writers.now.notice.commands w.0 c.args.callers.items w.2 w.3 all
+
+pub returns-clause-folded : goal.returns-clause-folded
+returns-clause-folded g c =
+    let none : length (into_iter_items c.loop-caller.caller-iterator) ≡ 0 = search rules in
+    c.loop-caller.invariant.folded (λ k d low. absurd (omega (arith, none, low)))

@@ -9,7 +9,8 @@ pub returns-clause-seen : goal.returns-clause-seen
 returns-clause-seen g c =
     let caller = c.caller.inside in
     let history = c.args.writers.now.page.journal in
-    let known = known_of caller.id caller.accepted caller.viewer caller.reader caller.notice_reader in
+    let known = known_of caller.id caller.accepted caller.viewer caller.reader caller.notice_reader
+    caller.folds.folded in
     subst (IsPartOf history) c.caller.view_is
     (part_of history c.args.writers.now.latch.publications known c.requires.snapshots c.tell.ensures.begins
     c.tell-2.ensures.extends c.caller.invariant.4)
@@ -17,7 +18,8 @@ returns-clause-seen g c =
 pub returns-clause-noticed : goal.returns-clause-noticed
 returns-clause-noticed g c =
     let caller = c.caller.inside in
-    let known = known_of caller.id caller.accepted caller.viewer caller.reader caller.notice_reader in
+    let known = known_of caller.id caller.accepted caller.viewer caller.reader caller.notice_reader
+    caller.folds.folded in
     let commands = c.args.writers.now.notice.commands in
     let log = c.take_in.new.self.log in
     let here : HasNoticed commands known =

@@ -20,6 +20,7 @@ invariant-loop-reader g l = record {
   room : length l.fn.readers.items ≤ vec_capacity l.callers;
   len : vec_len l.callers ≡ l.id;
   writer : l.writer ≡ l.initial.writer;
+  folds : l.folds ≡ l.initial.folds;
   made : l.callers.items
       ≡ newcomers g.L.Named.latch g.L.Named.notice l.fn.viewer.journal l.id;
 }

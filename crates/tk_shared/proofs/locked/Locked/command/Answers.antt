@@ -1,4 +1,4 @@
-use Rattle.std.proofs.Common.{◌≡◌, ℕ, ◌+◌, ◌<◌, ◌≤◌, ◌++◌, ◌∷◌, [], sym, ap, ◌∙◌, subst, refl, bit_and, List, rules}
+use Rattle.std.proofs.Common.{◌≡◌, ℕ, ◌+◌, ◌<◌, ◌≤◌, ◌++◌, ◌∷◌, [], sym, ap, ◌∙◌, subst, refl, arith, bit_and, List, rules}
 use Rattle.std.proofs.lemmas.Option.{same_Some}
 use Rattle.tk_clock.specs.declared.command.Entry.{Entry}
 use Rattle.tk_clock.specs.Journal.{Journal, followed_by, accepted_count}
@@ -14,6 +14,7 @@ use Rattle.tk_shared.specs.Readings.{EndsAtReading, IsRefusedAtReading}
 use Rattle.tk_keeper.specs.Keeper.{Keeper}
 use Rattle.tk_shared.proofs.Announced.{accepted_at_rest, refused_at_rest, informed_at_rest}
 use Rattle.tk_shared.proofs.Counts.{own_more}
+use Rattle.tk_shared.proofs.ListedFolds.{counts_on}
 use Rattle.tk_shared.proofs.Held.{with_entry, held_accepted}
 use Rattle.tk_shared.proofs.Kept.{kept_snapshot}
 use Rattle.tk_shared.proofs.Commands.{refused, accepted, reason, low_bits}
@@ -25,6 +26,7 @@ abbrev refused_caller : (g : Over) → goal.After-tell g → Known
 refused_caller g c =
     let caller = c.caller.inside in
     known_of caller.id caller.accepted caller.viewer caller.reader caller.notice_reader
+    caller.folds.folded
 
 abbrev refused_by : (g : Over) → goal.After-tell g → Held
 refused_by g c =
@@ -36,11 +38,27 @@ abbrev caller_of : (g : Over) → goal.After-caller-1 g → Known
 caller_of g c =
     let caller = c.caller.inside in
     known_of caller.id caller.accepted caller.viewer caller.reader caller.notice_reader
+    caller.folds.folded
 
 abbrev held_by : (g : Over) → goal.After-caller-1 g → Held
 held_by g c =
     let inside = c.self.inside in
     held_of inside.keeper.journal inside.writers.page inside.writers.latch inside.mask inside.book.total
+
+-- the caller knew of no more folded entries
+more_refused : (g : Over) (c : goal.After-tell g) →
+    (refused_caller g c).folded ≤ (refused_by g c).kept.opening.count
+more_refused g c =
+    let low = c.show.ensures.more in
+    let same = c.folded-folded.ensures in
+    omega (arith, low, same)
+
+more_accepted : (g : Over) (c : goal.After-caller-1 g) →
+    (caller_of g c).folded ≤ (held_by g c).kept.opening.count
+more_accepted g c =
+    let low = c.show.ensures.more in
+    let same = c.folded-folded.ensures in
+    omega (arith, low, same)
 
 -- the command's entry
 abbrev entry_by : (g : Over) → goal.After-caller-1 g → Entry
@@ -73,14 +91,14 @@ latched g c =
     c.show_on_latch.ensures ∙ ap pushed (λ i. (c.tell-2.ensures.writer i, next_is g c i))
 
 at_rest : (g : Over) (c : goal.After-caller-1 g) →
-    IsAtRest g.L.Named.notice (followed_by c.self.inside.writers.page.journal (entry_by g c))
+    IsAtRest g.L.Named.notice.commands (followed_by c.self.inside.writers.page.journal (entry_by g c))
     c.tell-4.new.self
 at_rest g c =
     let entry = entry_by g c in
     let informed = c.tell-4.ensures.same in
-    informed_at_rest g.L.Named.notice (followed_by c.self.inside.writers.page.journal entry)
+    informed_at_rest g.L.Named.notice.commands (followed_by c.self.inside.writers.page.journal entry)
     c.accept.new.writer c.tell-4.new.self c.tell-4.new.self.log informed
-    (accepted_at_rest g.L.Named.notice c.self.inside.writers.page.journal c.self.inside.writers.notice
+    (accepted_at_rest g.L.Named.notice.commands c.self.inside.writers.page.journal c.self.inside.writers.notice
     c.accept.new.writer entry c.announce.new.self.since entry.reading c.self.invariant.3
     (c.accept.ensures.notice ∙ c.announce.ensures.same.0) c.accept.ensures.idle refl
     (subst (λ (l : List Taken). IsAcceptedAt c.announce.new.self.since l entry.reading
@@ -91,16 +109,20 @@ pub returns-in-Err-clause-answer : goal.returns-in-Err-clause-answer
 returns-in-Err-clause-answer g c =
     let old = refused_caller g c in
     let stated = refused g.L.Named.page g.L.Named.latch (refused_by g c) c.self.invariant.0 old
-    c.read_after.result c.args.cmd c.tell.ensures.begins c.in-Err.refusal
+    c.read_after.result c.args.cmd c.tell.ensures.begins (more_refused g c) c.in-Err.refusal
     c.in-Err.ensures.answer.0 in
-    let new : Journal × ℕ → Known = λ p. record old { reads = p.1; seen = p.0 } in
-    let sight : Sight → Journal × ℕ = λ s. (s.journal, s.reads) in
-    let seen = ap sight c.tell.ensures.viewer in
+    let folded = c.show.ensures.reader.1 ∙ c.folded-folded.ensures in
+    let new : Journal × ℕ × ℕ → Known =
+    λ p. record old { reads = p.1; seen = p.0; folded = p.2 } in
+    let sight : Sight × ℕ → Journal × ℕ × ℕ = λ p. (p.0.journal, p.0.reads, p.1) in
+    let known : Sight × ℕ = (c.tell.new.viewer, c.show.new.reader.folded) in
+    let seen = ap sight (λ i. (c.tell.ensures.viewer i, folded i)) in
     let history = ap (λ (h : History). h.journal) c.tell.ensures.publisher in
     let guarded : Journal × Journal → Guarded = λ p. record { history = p.0; journal = p.1 } in (
-      subst (λ (k : Known). IsRefused k (new (sight c.tell.new.viewer)) c.args.cmd c.in-Err.refusal)
+      subst (λ (k : Known). IsRefused k (new (sight known)) c.args.cmd c.in-Err.refusal)
           c.caller.view_is
-          (subst (λ (p : Journal × ℕ). IsRefused old (new p) c.args.cmd c.in-Err.refusal) (sym seen) stated),
+          (subst (λ (p : Journal × ℕ × ℕ). IsRefused old (new p) c.args.cmd c.in-Err.refusal)
+          (sym seen) stated),
       ap guarded (λ i. (history i, ap (λ (k : Keeper). k.journal) c.in-Err.ensures.answer.1 i))
           ∙ c.self.view_is,
     )
@@ -111,12 +133,15 @@ returns-in-Err-clause-reading g c =
     let held = refused_by g c in
     let answer = c.read_after.result in
     let stated = reason g.L.Named.page g.L.Named.latch held c.self.invariant.0 old answer c.args.cmd
-    c.tell.ensures.begins c.in-Err.refusal c.in-Err.ensures.answer.0 in
+    c.tell.ensures.begins (more_refused g c) c.in-Err.refusal c.in-Err.ensures.answer.0 in
     let low = low_bits g.L.Named.page g.L.Named.latch held c.self.invariant.0 old answer c.args.cmd
-    c.tell.ensures.begins in
+    c.tell.ensures.begins (more_refused g c) in
     let seen = ap (λ (s : Sight). s.journal) c.tell.ensures.viewer in
-    let found : IsRefusedAtReading g.C.Counter.answers_after old held.shown.journal c.args.cmd
-    c.in-Err.refusal =
+    let folded = c.show.ensures.reader.1 ∙ c.folded-folded.ensures in
+    let now : Journal × ℕ → Known =
+    λ p. record old { reads = c.tell.new.viewer.reads; seen = p.0; folded = p.1 } in
+    let found : IsRefusedAtReading g.C.Counter.answers_after old
+    (now (held.shown.journal, held.kept.opening.count)) c.args.cmd c.in-Err.refusal =
     record {
       counter = c.self.inside.counter;
       from = moment_of c.look.result.now;
@@ -125,9 +150,9 @@ returns-in-Err-clause-reading g c =
       reason = stated;
     } in
     subst
-    (λ (p : Known × Journal).
-    IsRefusedAtReading g.C.Counter.answers_after p.0 p.1 c.args.cmd c.in-Err.refusal)
-    (λ i. (c.caller.view_is i, sym seen i)) found
+    (λ (p : Known × Journal × ℕ).
+    IsRefusedAtReading g.C.Counter.answers_after p.0 (now (p.1, p.2)) c.args.cmd c.in-Err.refusal)
+    (λ i. (c.caller.view_is i, sym seen i, sym folded i)) found
 
 pub publish_for-requires-clause-snapshot : goal.publish_for-requires-clause-snapshot
 publish_for-requires-clause-snapshot g c =
@@ -156,11 +181,14 @@ invariant_of-self g c =
           (λ i. (sym kept i, sym c.tell.ensures.publisher i)) c.self.invariant.0,
       c.self.invariant.1,
       c.self.invariant.2,
-      subst (λ (h : History). IsAtRest g.L.Named.notice h.journal c.withdraw.new.self)
+      subst (λ (h : History). IsAtRest g.L.Named.notice.commands h.journal c.withdraw.new.self)
           (sym c.tell.ensures.publisher)
-          (refused_at_rest g.L.Named.notice c.self.inside.writers.page.journal c.self.inside.writers.notice
-          c.announce.new.self c.withdraw.new.self c.self.invariant.3 c.announce.ensures.same.0
-          c.announce.ensures.same.1 c.withdraw.ensures),
+          (refused_at_rest g.L.Named.notice.commands c.self.inside.writers.page.journal
+          c.self.inside.writers.notice c.announce.new.self c.withdraw.new.self c.self.invariant.3
+          c.announce.ensures.same.0 c.announce.ensures.same.1 c.withdraw.ensures),
+      counts_on g.L.Named.notice.folds c.self.inside.writers.folds c.show.new.self _ _
+          c.self.invariant.4 c.show.ensures.same
+          (ap (λ (j : Journal). j.opening.count) (sym kept)),
     )
 
 pub invariant_of-self-2 : goal.invariant_of-self-2
@@ -178,8 +206,11 @@ invariant_of-self-2 g c =
           (now_held g c),
       c.self.invariant.1,
       c.self.invariant.2,
-      subst (λ (j : Journal). IsAtRest g.L.Named.notice j c.tell-4.new.self)
+      subst (λ (j : Journal). IsAtRest g.L.Named.notice.commands j c.tell-4.new.self)
           (ap (λ (h : History). h.journal) (sym published)) (at_rest g c),
+      counts_on g.L.Named.notice.folds c.self.inside.writers.folds c.show.new.self _ _
+          c.self.invariant.4 c.show.ensures.same
+          (ap (λ (j : Journal). j.opening.count) (sym c.in-Ok.ensures.answer.1)),
     )
 
 pub invariant_of-caller-2 : goal.invariant_of-caller-2
@@ -195,6 +226,7 @@ invariant_of-caller-2 g c =
           (own_more old.id old.accepted old.seen.entries history.entries (entry_by g c) refl
           c.publish_for.ensures.begins.1 c.caller.invariant.4),
       search rules,
+      search rules,
     )
 
 pub returns-clause-answer : goal.returns-clause-answer
@@ -202,34 +234,39 @@ returns-clause-answer g c =
     let old = caller_of g c in
     let answer = c.in-Ok.ensures.answer in
     let stated = accepted g.L.Named.page g.L.Named.latch (held_by g c) c.self.invariant.0 old
-    c.read_after.result c.args.cmd c.publish_for.ensures.begins c.in-Ok.number c.tell-2.ensures.extends
-    answer.0 (answer.2 ∙ ap accepted_count answer.1) g.L.Named.notice c.tell-4.new.self
+    c.read_after.result c.args.cmd c.publish_for.ensures.begins (more_accepted g c) c.in-Ok.number
+    c.tell-2.ensures.extends answer.0 (answer.2 ∙ ap accepted_count answer.1) g.L.Named.notice.commands c.tell-4.new.self
     c.tell-4.new.reader (at_rest g c) c.tell-4.ensures.told in
     let seen = ap (λ (s : Sight). s.journal) c.publish_for.ensures.viewer in
     let reads = ap (λ (s : Sight). s.reads) c.publish_for.ensures.viewer in
     let learnt = c.tell-3.ensures.reader ∙ ap told_reader (latched g c) in
-    let new : ℕ × Journal × Learnt → Known = λ p. record {
+    let folded = c.show.ensures.reader.1 ∙ c.folded-folded.ensures in
+    let new : ℕ × Journal × Learnt × ℕ → Known = λ p. record {
       id = old.id;
       accepted = old.accepted + 1;
       reads = p.0;
       seen = p.1;
       learnt = p.2;
       noticed = c.tell-4.new.reader;
+      folded = p.3;
     } in
-    subst
-    (λ (k : Known).
-    IsAccepted k (new (c.publish_for.new.viewer.reads, c.publish_for.new.viewer.journal, c.tell-3.new.reader))
-    c.args.cmd c.in-Ok.number)
+    let known : ℕ × Journal × Learnt × ℕ = (
+      c.publish_for.new.viewer.reads,
+      c.publish_for.new.viewer.journal,
+      c.tell-3.new.reader,
+      c.show.new.reader.folded,
+    ) in
+    subst (λ (k : Known). IsAccepted k (new known) c.args.cmd c.in-Ok.number)
     c.caller.view_is
-    (subst (λ (p : ℕ × Journal × Learnt). IsAccepted old (new p) c.args.cmd c.in-Ok.number)
-    (λ i. (sym reads i, sym seen i, sym learnt i)) stated)
+    (subst (λ (p : ℕ × Journal × Learnt × ℕ). IsAccepted old (new p) c.args.cmd c.in-Ok.number)
+    (λ i. (sym reads i, sym seen i, sym learnt i, sym folded i)) stated)
 
 pub returns-clause-reading : goal.returns-clause-reading
 returns-clause-reading g c =
     let held = held_by g c in
     let answer = c.read_after.result in
     let low = low_bits g.L.Named.page g.L.Named.latch held c.self.invariant.0 (caller_of g c) answer
-    c.args.cmd c.publish_for.ensures.begins in
+    c.args.cmd c.publish_for.ensures.begins (more_accepted g c) in
     let seen = ap (λ (s : Sight). s.journal) c.publish_for.ensures.viewer in
     let at = c.accept.ensures.accepted in
     let same : at.0 ≡ moment_of c.look.result.now =

@@ -1,6 +1,6 @@
-use Rattle.std.proofs.Common.{◌≡◌, ◌≤◌, rules, arith}
+use Rattle.std.proofs.Common.{◌≡◌, ℕ, ◌≤◌, All, rules, arith, subst}
 use Rattle.std.specs.Prelude.{vec_len}
-use Rattle.tk_shared.specs.Closing.{accepted_by}
+use Rattle.tk_shared.specs.Closing.{HasFolded, accepted_by}
 use Rattle.tk_shared.specs.Locked.{held_of}
 use Rattle.tk_shared.proofs.Ends.{closed}
 use Rattle.tk_shared.proofs.shared_keeper.SharedKeeper.close.Goals as goal
@@ -16,9 +16,12 @@ returns g c =
     let none = c.keeper.invariant.2 in
     let joined = c.take_all.ensures.amount in
     let total : inside.book.total ≡ accepted_by c.args.callers.items =
-    omega (arith, counted, none, joined) in (
+    omega (arith, counted, none, joined) in
+    let folded = subst (λ (n : ℕ). All (HasFolded n) c.args.callers.items) c.folded-folded.ensures
+    c.take_all.ensures.folded in (
       enough,
-      closed g.L.Named.page g.L.Named.latch g.L.Named.notice held inside.writers.notice
+      closed g.L.Named.page g.L.Named.latch g.L.Named.notice.commands held inside.writers.notice
           c.args.callers.items c.keeper.invariant.0 c.keeper.invariant.3 c.requires.different
-          c.take_all.ensures.seen c.take_all.ensures.noticed c.take_all.ensures.listed total,
+          c.take_all.ensures.seen c.take_all.ensures.noticed c.take_all.ensures.listed
+          folded total,
     )
