@@ -1,12 +1,12 @@
 ghost use Rattle.std.specs.Prelude.{Some};
 ghost use Rattle.tk_counter.specs.DescError.{fault_text};
 
-use std::error::Error;
 use std::fmt;
+use thiserror::Error;
 
 /// Says why numbers describe no counter. If several of these apply, the first in this order is the
 /// error.
-#[derive(Clone, Copy, Debug, PartialEq, Eq)]
+#[derive(Clone, Copy, Debug, PartialEq, Eq, Error)]
 pub enum DescError {
     /// A reading would have fewer than 8 bits, or more than 64.
     Bits,
@@ -33,5 +33,3 @@ impl fmt::Display for DescError {
         })
     }
 }
-
-impl Error for DescError {}

@@ -1,13 +1,13 @@
 ghost use Rattle.std.specs.Prelude.{◌≡◌};
 ghost use Rattle.tk_lanes.specs.BatchError.{batch_text, refused_at};
 
-use std::error::Error;
 use std::fmt;
+use thiserror::Error;
 use tk_clock::ReadError;
 
 /// Names the first stamp of a list that is refused, by its index from 0, and says why. The stamps
 /// before it were converted.
-#[derive(Clone, Copy, Debug, PartialEq, Eq)]
+#[derive(Clone, Copy, Debug, PartialEq, Eq, Error)]
 pub enum BatchError {
     /// The stamp at `index` is above the mask.
     Invalid { index: usize },
@@ -37,5 +37,3 @@ impl fmt::Display for BatchError {
         }
     }
 }
-
-impl Error for BatchError {}

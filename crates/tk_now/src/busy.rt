@@ -1,12 +1,12 @@
 ghost use Rattle.std.specs.Prelude.{Some};
 ghost use Rattle.tk_now.specs.Busy.{busy_text};
 
-use std::error::Error;
 use std::fmt;
+use thiserror::Error;
 
 /// Says that no reading was taken, because a command was in progress or was accepted between the
 /// two loads of the notice.
-#[derive(Clone, Copy, Debug, PartialEq, Eq)]
+#[derive(Clone, Copy, Debug, PartialEq, Eq, Error)]
 pub struct Busy {
     /// The word that the first load found.
     pub first: u64,
@@ -25,5 +25,3 @@ impl fmt::Display for Busy {
         )
     }
 }
-
-impl Error for Busy {}

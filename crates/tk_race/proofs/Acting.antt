@@ -3,6 +3,7 @@ use Rattle.std.proofs.Common.{◌≡◌, ℕ, ◌+◌, ◌<◌, List, [], ◌∷
 use Rattle.std.proofs.lemmas.List.{take_more}
 use Rattle.std.proofs.lemmas.List.Sums.{sum_by_push}
 use Rattle.tk_clock.specs.Journal.{Journal}
+use Rattle.tk_now.specs.declared.counter.SharedTicker.{SharedTicker}
 use Rattle.tk_shared.specs.Callers.{Known}
 use Rattle.tk_clock.proofs.Lists.{prefix_trans}
 use Rattle.tk_shared.proofs.Snapshots.{snapshots_prefix}
@@ -39,12 +40,12 @@ later_twice start now next one other both saw more all asked again times p q sum
 }
 
 -- one more right reply
-module _ (history : Journal) (id : ℕ) where
+module _ (ticker : SharedTicker) (history : Journal) (id : ℕ) where
   replies_push : (front mark : ℕ) (actions : List Action) (replies : List RaceReply)
       (action : Action) (reply : RaceReply) →
-      AreReplies history id front mark actions replies →
-      IsReply history id (last_front front replies) (last_mark mark replies) action reply →
-      AreReplies history id front mark (actions ++ action ∷ []) (replies ++ reply ∷ [])
+      AreReplies ticker history id front mark actions replies →
+      IsReply ticker history id (last_front front replies) (last_mark mark replies) action reply →
+      AreReplies ticker history id front mark (actions ++ action ∷ []) (replies ++ reply ∷ [])
   replies_push front mark [] [] action reply are last = (last, tt)
   replies_push front mark [] (r ∷ rs) action reply are last = absurd are
   replies_push front mark (a ∷ acts) [] action reply are last = absurd are
@@ -64,11 +65,11 @@ last_mark-push mark [] reply = refl
 last_mark-push mark (r ∷ rs) reply = last_mark-push (mark_after mark r) rs reply
 
 -- one more action
-acted_push : (start now next : Known) (actions : List Action) (replies : List RaceReply)
-    (action : Action) (reply : RaceReply) → HasActed start now actions replies →
-    IsAnswer now next action reply →
-    HasActed start next (actions ++ action ∷ []) (replies ++ reply ∷ [])
-acted_push start now next actions replies action reply acted answer = record {
+acted_push : (ticker : SharedTicker) (start now next : Known) (actions : List Action)
+    (replies : List RaceReply) (action : Action) (reply : RaceReply) →
+    HasActed ticker start now actions replies → IsAnswer ticker now next action reply →
+    HasActed ticker start next (actions ++ action ∷ []) (replies ++ reply ∷ [])
+acted_push ticker start now next actions replies action reply acted answer = record {
   later = later_twice start now next _ (done_by reply) _ _ (reads_by reply) _ _ (times_by reply) _
       acted.later answer.later (sum_by_push done_by replies reply)
       (sum_by_push reads_by replies reply) (sum_by_push times_by replies reply);
@@ -80,9 +81,9 @@ acted_push start now next actions replies action reply acted answer = record {
       let front = last_front 0 replies in
       let mark = last_mark 0 replies in
       let stated = answer.right history is front mark was.1 in
-      let last = subst (λ (id : ℕ). IsReply history id front mark action reply) acted.later.id
-      stated.0 in (
-        replies_push history start.id 0 0 actions replies action reply was.0 last,
+      let last = subst (λ (id : ℕ). IsReply ticker history id front mark action reply)
+      acted.later.id stated.0 in (
+        replies_push ticker history start.id 0 0 actions replies action reply was.0 last,
         subst (λ (t : ℕ × ℕ). Knows next t.0 t.1)
             (λ i. (sym (last_front-push 0 replies reply) i, sym (last_mark-push 0 replies reply) i))
             stated.1,
@@ -90,11 +91,13 @@ acted_push start now next actions replies action reply acted answer = record {
 }
 
 -- one step of the loop over the actions
-pub acted_next : (start now next : Known) (actions : List Action) (i : ℕ)
+pub acted_next : (ticker : SharedTicker) (start now next : Known) (actions : List Action) (i : ℕ)
     (replies more : List RaceReply) (reply : RaceReply) (d : Action) → i < length actions →
-    HasActed start now (take i actions) replies → IsAnswer now next (get_or actions i d) reply →
-    more ≡ replies ++ reply ∷ [] → HasActed start next (take (i + 1) actions) more
-acted_next start now next actions i replies more reply d below acted answer is =
-    subst (λ (t : List Action × List RaceReply). HasActed start next t.0 t.1)
+    HasActed ticker start now (take i actions) replies →
+    IsAnswer ticker now next (get_or actions i d) reply → more ≡ replies ++ reply ∷ [] →
+    HasActed ticker start next (take (i + 1) actions) more
+acted_next ticker start now next actions i replies more reply d below acted answer is =
+    subst (λ (t : List Action × List RaceReply). HasActed ticker start next t.0 t.1)
     (λ j. (sym (take_more actions i d below) j, sym is j))
-    (acted_push start now next (take i actions) replies (get_or actions i d) reply acted answer)
+    (acted_push ticker start now next (take i actions) replies (get_or actions i d) reply acted
+    answer)

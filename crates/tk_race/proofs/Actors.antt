@@ -3,6 +3,7 @@ use Rattle.std.proofs.Common.{◌≡◌, ℕ, suc, ◌+◌, ◌<◌, ◌≤◌, 
 use Rattle.std.specs.List.{AllZip}
 use Rattle.std.proofs.lemmas.List.{map-append, length-map, take_more}
 use Rattle.std.proofs.lemmas.Slice.Zip.{AllZip-long}
+use Rattle.tk_now.specs.declared.counter.SharedTicker.{SharedTicker}
 use Rattle.tk_shared.specs.Callers.{Known}
 use Rattle.tk_race.specs.declared.action.Action.{Action}
 use Rattle.tk_race.specs.declared.action.RaceReply.{RaceReply}
@@ -44,35 +45,37 @@ ready_last whole rest last actors others actor are a b =
     (subst (λ (t : List (List Action) × List Actor). AreReady t.0 t.1) (λ i. (a i, b i)) are)
 
 -- as many actors come back as were sent
-pub acted_length : (actions : List (List Action)) (olds news : List Actor) →
-    HaveActed actions olds news → length news ≡ length olds
-acted_length [] [] [] have = refl
-acted_length [] [] (new ∷ news) have = absurd have
-acted_length [] (old ∷ olds) news have = absurd have
-acted_length (a ∷ acts) [] news have = absurd have
-acted_length (a ∷ acts) (old ∷ olds) [] have = absurd have
-acted_length (a ∷ acts) (old ∷ olds) (new ∷ news) have =
-    ap suc (acted_length acts olds news have.1)
+module _ (ticker : SharedTicker) where
+  pub acted_length : (actions : List (List Action)) (olds news : List Actor) →
+      HaveActed ticker actions olds news → length news ≡ length olds
+  acted_length [] [] [] have = refl
+  acted_length [] [] (new ∷ news) have = absurd have
+  acted_length [] (old ∷ olds) news have = absurd have
+  acted_length (a ∷ acts) [] news have = absurd have
+  acted_length (a ∷ acts) (old ∷ olds) [] have = absurd have
+  acted_length (a ∷ acts) (old ∷ olds) (new ∷ news) have =
+      ap suc (acted_length acts olds news have.1)
 
-acted_push : (actions : List (List Action)) (last : List Action) (olds : List Actor) (old : Actor)
-    (news : List Actor) (new : Actor) → HaveActed actions olds news →
-    HasActed old.caller new.caller last new.replies →
-    HaveActed (actions ++ last ∷ []) (olds ++ old ∷ []) (news ++ new ∷ [])
-acted_push [] last [] old [] new have acted = (acted, tt)
-acted_push [] last [] old (n ∷ ns) new have acted = absurd have
-acted_push [] last (o ∷ os) old news new have acted = absurd have
-acted_push (a ∷ acts) last [] old news new have acted = absurd have
-acted_push (a ∷ acts) last (o ∷ os) old [] new have acted = absurd have
-acted_push (a ∷ acts) last (o ∷ os) old (n ∷ ns) new have acted =
-    (have.0, acted_push acts last os old ns new have.1 acted)
+  acted_push : (actions : List (List Action)) (last : List Action) (olds : List Actor)
+      (old : Actor) (news : List Actor) (new : Actor) → HaveActed ticker actions olds news →
+      HasActed ticker old.caller new.caller last new.replies →
+      HaveActed ticker (actions ++ last ∷ []) (olds ++ old ∷ []) (news ++ new ∷ [])
+  acted_push [] last [] old [] new have acted = (acted, tt)
+  acted_push [] last [] old (n ∷ ns) new have acted = absurd have
+  acted_push [] last (o ∷ os) old news new have acted = absurd have
+  acted_push (a ∷ acts) last [] old news new have acted = absurd have
+  acted_push (a ∷ acts) last (o ∷ os) old [] new have acted = absurd have
+  acted_push (a ∷ acts) last (o ∷ os) old (n ∷ ns) new have acted =
+      (have.0, acted_push acts last os old ns new have.1 acted)
 
-pub acted_last : (whole rest : List (List Action)) (last : List Action) (olds others : List Actor)
-    (old : Actor) (back before : List Actor) (new : Actor) → whole ≡ rest ++ last ∷ [] →
-    olds ≡ others ++ old ∷ [] → back ≡ before ++ new ∷ [] → HaveActed rest others before →
-    HasActed old.caller new.caller last new.replies → HaveActed whole olds back
-acted_last whole rest last olds others old back before new a b d have acted =
-    subst (λ (t : List (List Action) × List Actor × List Actor). HaveActed t.0 t.1 t.2)
-    (λ i. (sym a i, sym b i, sym d i)) (acted_push rest last others old before new have acted)
+  pub acted_last : (whole rest : List (List Action)) (last : List Action)
+      (olds others : List Actor) (old : Actor) (back before : List Actor) (new : Actor) →
+      whole ≡ rest ++ last ∷ [] → olds ≡ others ++ old ∷ [] → back ≡ before ++ new ∷ [] →
+      HaveActed ticker rest others before →
+      HasActed ticker old.caller new.caller last new.replies → HaveActed ticker whole olds back
+  acted_last whole rest last olds others old back before new a b d have acted =
+      subst (λ (t : List (List Action) × List Actor × List Actor). HaveActed ticker t.0 t.1 t.2)
+      (λ i. (sym a i, sym b i, sym d i)) (acted_push rest last others old before new have acted)
 
 -- one more actor is ready
 ready_next : {A : Type 0} (f : A → List Action) (xs : List A) (actors more : List Actor) (d : A)
@@ -114,17 +117,18 @@ next_actor f xs actors more actions index actor all rest others many callers ste
     )
 
 -- as many actors come back as there are lists of actions
-pub many_acted : {A : Type 0} (f : A → List Action) (xs : List A) (olds news : List Actor) →
-    AreReady (map f xs) olds → HaveActed (map f xs) olds news → length news ≡ length xs
-many_acted f xs olds news are have =
-    acted_length (map f xs) olds news have ∙ AllZip-long IsReady (map f xs) olds are
+pub many_acted : {A : Type 0} (ticker : SharedTicker) (f : A → List Action) (xs : List A)
+    (olds news : List Actor) → AreReady (map f xs) olds → HaveActed ticker (map f xs) olds news →
+    length news ≡ length xs
+many_acted ticker f xs olds news are have =
+    acted_length ticker (map f xs) olds news have ∙ AllZip-long IsReady (map f xs) olds are
     ∙ length-map xs f
 
 -- as many callers come back as were sent
-pub many_done : (actions : List (List Action)) (before after : List Known)
-    (replies : List (List RaceReply)) → HaveDone actions before after replies →
+pub many_done : (ticker : SharedTicker) (actions : List (List Action)) (before after : List Known)
+    (replies : List (List RaceReply)) → HaveDone ticker actions before after replies →
     length after ≡ length before
-many_done actions before after replies done =
+many_done ticker actions before after replies done =
     ap length done.ended ∙ length-map done.news (λ (a : Actor). a.caller)
-    ∙ acted_length actions done.olds done.news done.acted
+    ∙ acted_length ticker actions done.olds done.news done.acted
     ∙ sym (length-map done.olds (λ (a : Actor). a.caller)) ∙ ap length done.began

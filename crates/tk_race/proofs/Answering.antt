@@ -11,8 +11,10 @@ use Rattle.tk_clock.specs.declared.refusal.Refusal.{Refusal}
 use Rattle.tk_clock.specs.Journal.{Opening, Journal, prefix}
 use Rattle.tk_page.specs.History.{Begins}
 use Rattle.tk_latch.specs.Latch.{Learnt, mark_of}
+use Rattle.tk_now.specs.declared.counter.SharedTicker.{SharedTicker}
 use Rattle.tk_shared.specs.Callers.{Known, IsAccepted, IsRefused, IsSameCaller, IsRefusalAfter, entry_of}
 use Rattle.tk_shared.proofs.Kept.{whole_count}
+use Rattle.tk_shared.proofs.Refused.{refused_unfolded}
 use Rattle.tk_clock.proofs.Lists.{prefix_self, prefix_trans, prefix_length}
 use Rattle.tk_race.specs.declared.action.Action.TheVariants.{Order}
 use Rattle.tk_race.specs.declared.action.RaceReply.TheVariants.{Done, Refused}
@@ -50,9 +52,10 @@ numbered count number entries before rest entry none next is =
     ∙ get_at before rest entry
 
 -- the reply to an order that was accepted is right
-pub done : (old new : Known) (cmd : Command) (number : ℕ) → IsAccepted old new cmd number →
-    IsSameCaller old new → IsAnswer old new (Order cmd) (Done number)
-done old new cmd number stated same =
+pub done : (ticker : SharedTicker) (old new : Known) (cmd : Command) (number : ℕ) →
+    IsAccepted old new cmd number → IsSameCaller old new →
+    IsAnswer ticker old new (Order cmd) (Done number)
+done ticker old new cmd number stated same =
     let before = stated.before.entries in
     let entry = entry_of old stated.reading cmd in
     let last = ap (λ (j : Journal). j.entries) stated.last in
@@ -94,10 +97,10 @@ done old new cmd number stated same =
     }
 
 -- the reply to an order that was refused is right
-pub refused : (old new : Known) (cmd : Command) (refusal : Refusal) →
+pub refused : (ticker : SharedTicker) (old new : Known) (cmd : Command) (refusal : Refusal) →
     IsRefused old new cmd refusal → IsSameCaller old new →
-    IsAnswer old new (Order cmd) (Refused refusal)
-refused old new cmd refusal stated same =
+    IsAnswer ticker old new (Order cmd) (Refused refusal)
+refused ticker old new cmd refusal stated same =
     let more = begins_length old.seen new.seen stated.extends in
     let counted = stated.counted in
     record {
@@ -121,8 +124,10 @@ refused old new cmd refusal stated same =
               masked = subst (λ (o : Opening). stated.reading ≤ mask o.counter) (sym is.begins.0)
                   stated.masked;
               reason = subst
-                  (λ (j : Journal). IsRefusalAfter j (entry_of old stated.reading cmd) refusal)
-                  (begins_prefix new.seen history is.begins) stated.reason;
+                  (λ (j : Journal). IsRefusalAfter 0 j (entry_of old stated.reading cmd) refusal)
+                  (begins_prefix new.seen history is.begins)
+                  (refused_unfolded new.folded new.seen (entry_of old stated.reading cmd) refusal
+                  stated.reason);
             },
             (omega (arith, low, more), omega (arith, high, learnt)),
           ));

@@ -4,8 +4,9 @@ use Rattle.std.proofs.lemmas.List.Sums.{sum_by-cons}
 use Rattle.tk_clock.specs.Journal.{Journal}
 use Rattle.tk_clock.specs.Legal.{IsWhole}
 use Rattle.tk_page.specs.History.{Begins}
-use Rattle.atomic_table.specs.Seated.{TableId}
+use Rattle.tk_shared.specs.Folds.{NoticeIds}
 use Rattle.tk_latch.specs.Latch.{LatchId}
+use Rattle.tk_now.specs.declared.counter.SharedTicker.{SharedTicker}
 use Rattle.tk_shared.specs.Callers.{Known, made_by, newcomer, newcomers}
 use Rattle.tk_shared.specs.Closing.{IsApart, AreDifferent, IsClosed, IsCounted, IsPartOf, accepted_by}
 use Rattle.tk_race.specs.declared.action.Action.{Action}
@@ -16,12 +17,12 @@ use Rattle.tk_race.specs.Replies.{IsActed, done_in}
 use Rattle.tk_page.proofs.Beginnings.{begins-trans}
 
 -- the newcomers with the numbers k, k + 1 and so on
-newcomers_from : LatchId → TableId → Journal → ℕ → ℕ → List Known
+newcomers_from : LatchId → NoticeIds → Journal → ℕ → ℕ → List Known
 newcomers_from latch notice start k zero = []
 newcomers_from latch notice start k (suc n) =
     newcomer latch notice start k ∷ newcomers_from latch notice start (k + 1) n
 
-from_push : (latch : LatchId) (notice : TableId) (start : Journal) (k n : ℕ) →
+from_push : (latch : LatchId) (notice : NoticeIds) (start : Journal) (k n : ℕ) →
     newcomers_from latch notice start k (suc n)
     ≡ newcomers_from latch notice start k n ++ newcomer latch notice start (k + n) ∷ []
 unfolding newcomers_from
@@ -31,7 +32,7 @@ from_push latch notice start k (suc n) =
     ∙ ap (λ (j : ℕ). newcomer latch notice start k
     ∷ (newcomers_from latch notice start (k + 1) n ++ newcomer latch notice start j ∷ [])) (omega arith)
 
-from_all : (latch : LatchId) (notice : TableId) (start : Journal) (n : ℕ) →
+from_all : (latch : LatchId) (notice : NoticeIds) (start : Journal) (n : ℕ) →
     newcomers latch notice start n ≡ newcomers_from latch notice start 0 n
 unfolding newcomers_from
 from_all latch notice start zero = refl
@@ -40,7 +41,7 @@ from_all latch notice start (suc n) =
     ∙ sym (from_push latch notice start 0 n
     ∙ ap (λ (j : ℕ). newcomers_from latch notice start 0 n ++ newcomer latch notice start j ∷ []) (omega arith))
 
-pub length-newcomers : (latch : LatchId) (notice : TableId) (start : Journal) (n : ℕ) →
+pub length-newcomers : (latch : LatchId) (notice : NoticeIds) (start : Journal) (n : ℕ) →
     length (newcomers latch notice start n) ≡ n
 length-newcomers latch notice start zero = refl
 length-newcomers latch notice start (suc n) =
@@ -48,18 +49,19 @@ length-newcomers latch notice start (suc n) =
     let more = length-append (newcomers latch notice start n) (newcomer latch notice start n ∷ []) in
     omega (arith, rest, more)
 
-module _ (latch : LatchId) (notice : TableId) (start : Journal) where
+module _ (ticker : SharedTicker) (latch : LatchId) (notice : NoticeIds) (start : Journal) where
   -- these actors were the newcomers with the numbers k, k + 1 and so on, and have done their
   -- actions
   abbrev HaveRaced : ℕ → List (List Action) → List Actor → Type 0
   HaveRaced k [] [] = Unit {0}
   HaveRaced k (actions ∷ others) (actor ∷ actors) =
-      HasActed (newcomer latch notice start k) actor.caller actions actor.replies
+      HasActed ticker (newcomer latch notice start k) actor.caller actions actor.replies
       × HaveRaced (k + 1) others actors
   HaveRaced k _ _ = ⊥
 
   raced_from : (k n : ℕ) (actions : List (List Action)) (olds news : List Actor) →
-      map (λ a. a.caller) olds ≡ newcomers_from latch notice start k n → HaveActed actions olds news →
+      map (λ a. a.caller) olds ≡ newcomers_from latch notice start k n →
+      HaveActed ticker actions olds news →
       HaveRaced k actions news
   unfolding newcomers_from
   raced_from k n [] [] [] is have = tt
@@ -70,12 +72,13 @@ module _ (latch : LatchId) (notice : TableId) (start : Journal) where
   raced_from k zero (a ∷ acts) (old ∷ olds) (new ∷ news) is have = absurd (cc is)
   raced_from k (suc n) (a ∷ acts) (old ∷ olds) (new ∷ news) is have =
       let first : old.caller ≡ newcomer latch notice start k = cc is in (
-        subst (λ (c : Known). HasActed c new.caller a new.replies) first have.0,
+        subst (λ (c : Known). HasActed ticker c new.caller a new.replies) first have.0,
         raced_from (k + 1) n acts olds news (cc is) have.1,
       )
 
   all_raced : (n : ℕ) (actions : List (List Action)) (olds news : List Actor) →
-      map (λ a. a.caller) olds ≡ newcomers latch notice start n → HaveActed actions olds news →
+      map (λ a. a.caller) olds ≡ newcomers latch notice start n →
+      HaveActed ticker actions olds news →
       HaveRaced 0 actions news
   all_raced n actions olds news is have =
       raced_from 0 n actions olds news (is ∙ from_all latch notice start n) have
@@ -104,7 +107,8 @@ module _ (latch : LatchId) (notice : TableId) (start : Journal) where
       )
 
   pub all_different : (n : ℕ) (actions : List (List Action)) (olds news : List Actor) →
-      map (λ a. a.caller) olds ≡ newcomers latch notice start n → HaveActed actions olds news →
+      map (λ a. a.caller) olds ≡ newcomers latch notice start n →
+      HaveActed ticker actions olds news →
       AreDifferent (map (λ a. a.caller) news)
   all_different n actions olds news is have =
       different_from 0 actions news (all_raced n actions olds news is have)
@@ -112,9 +116,9 @@ module _ (latch : LatchId) (notice : TableId) (start : Journal) where
   -- an actor's part in the history
   part : (history : Journal) (k : ℕ) (actions : List Action)
       (new : Actor) → IsWhole history →
-      HasActed (newcomer latch notice start k) new.caller actions new.replies →
+      HasActed ticker (newcomer latch notice start k) new.caller actions new.replies →
       IsPartOf history new.caller → IsCounted history new.caller →
-      IsActed history k actions new.replies
+      IsActed ticker history k actions new.replies
   part history k actions new whole acted is own =
       let known : IsHistoryOf new.caller history =
       record { whole = whole; begins = is.begins; learnt = is.learnt } in
@@ -129,7 +133,7 @@ module _ (latch : LatchId) (notice : TableId) (start : Journal) where
       (news : List Actor) → IsWhole history → HaveRaced k actions news →
       All (IsPartOf history) (map (λ a. a.caller) news) →
       All (IsCounted history) (map (λ a. a.caller) news) →
-      HaveAll history k actions (map (λ a. a.replies) news)
+      HaveAll ticker history k actions (map (λ a. a.replies) news)
   all_from history k [] [] whole have parts own = tt
   all_from history k [] (new ∷ news) whole have parts own = absurd have
   all_from history k (a ∷ acts) [] whole have parts own = absurd have
@@ -168,9 +172,10 @@ module _ (latch : LatchId) (notice : TableId) (start : Journal) where
 
   pub outcome : (journal : Journal) (n : ℕ) (actions : List (List Action)) (olds news : List Actor)
       (callers : List Known) (replies : List (List RaceReply)) → 0 < length actions →
-      map (λ a. a.caller) olds ≡ newcomers latch notice start n → HaveActed actions olds news →
+      map (λ a. a.caller) olds ≡ newcomers latch notice start n →
+      HaveActed ticker actions olds news →
       callers ≡ map (λ a. a.caller) news → replies ≡ map (λ a. a.replies) news →
-      IsClosed journal callers → IsOutcome start actions journal replies
+      IsClosed journal callers → IsOutcome ticker start actions journal replies
   outcome journal n actions olds news callers replies some is have known stated closed =
       let raced = all_raced n actions olds news is have in
       let history = closed.history in
@@ -181,7 +186,7 @@ module _ (latch : LatchId) (notice : TableId) (start : Journal) where
         begins = begins_all history actions news some raced parts;
         whole = closed.whole;
         kept = closed.kept;
-        each = subst (HaveAll history 0 actions) (sym stated)
+        each = subst (HaveAll ticker history 0 actions) (sym stated)
             (all_from history 0 actions news closed.whole raced parts own);
         counted = closed.counted ∙ ap accepted_by known ∙ counted_from 0 actions news raced
             ∙ sym (ap (λ l. sum_by done_in l) stated);

@@ -6,6 +6,7 @@ use Rattle.tk_clock.specs.Journal.{Journal}
 use Rattle.tk_clock.specs.Legal.{IsWhole}
 use Rattle.tk_page.specs.History.{Begins}
 use Rattle.tk_latch.specs.Latch.{mark_of}
+use Rattle.tk_now.specs.declared.counter.SharedTicker.{SharedTicker}
 use Rattle.tk_shared.specs.Callers.{Known}
 use Rattle.tk_shared.specs.History.{AreSnapshots}
 use Rattle.tk_race.specs.declared.action.Action.{Action}
@@ -48,11 +49,12 @@ Knows caller front mark =
     (front ≤ length caller.seen.entries) × (mark ≤ mark_of caller.learnt.publications)
 
 -- an action and its reply; the reply is right for every history that is still possible
-pub record IsAnswer (old new : Known) (action : Action) (reply : RaceReply) : Type 0 where
+pub record IsAnswer (ticker : SharedTicker) (old new : Known) (action : Action) (reply : RaceReply)
+    : Type 0 where
   pub later : IsLater old new (done_by reply) (reads_by reply) (times_by reply)
   pub right : (history : Journal) → IsHistoryOf new history →
       (front mark : ℕ) → Knows old front mark →
-      IsReply history old.id front mark action reply
+      IsReply ticker history old.id front mark action reply
       × Knows new (front_after front reply) (mark_after mark reply)
 
 -- the sequence numbers of the latch that a glance's own loads have found: one number twice, or two
@@ -74,27 +76,27 @@ last_mark mark (reply ∷ replies) = last_mark (mark_after mark reply) replies
 
 -- an actor's actions and their replies; the replies are right for every history that is still
 -- possible
-pub record HasActed (old new : Known) (actions : List Action) (replies : List RaceReply)
-    : Type 0 where
+pub record HasActed (ticker : SharedTicker) (old new : Known) (actions : List Action)
+    (replies : List RaceReply) : Type 0 where
   pub later : IsLater old new (done_in replies) (reads_in replies) (times_in replies)
   pub right : (history : Journal) → IsHistoryOf new history →
-      AreReplies history old.id 0 0 actions replies
+      AreReplies ticker history old.id 0 0 actions replies
       × Knows new (last_front 0 replies) (last_mark 0 replies)
 
 -- all these actors have done all of their actions
-abbrev pub HaveActed : List (List Action) → List Actor → List Actor → Type 0
-HaveActed [] [] [] = Unit {0}
-HaveActed (actions ∷ others) (old ∷ olds) (new ∷ news) =
-    HasActed old.caller new.caller actions new.replies × HaveActed others olds news
-HaveActed _ _ _ = ⊥
+abbrev pub HaveActed : SharedTicker → List (List Action) → List Actor → List Actor → Type 0
+HaveActed ticker [] [] [] = Unit {0}
+HaveActed ticker (actions ∷ others) (old ∷ olds) (new ∷ news) =
+    HasActed ticker old.caller new.caller actions new.replies × HaveActed ticker others olds news
+HaveActed ticker _ _ _ = ⊥
 
 -- callers that knew `before` have done their actions, and know `after`; every caller has its list
 -- of replies
-pub record HaveDone (actions : List (List Action)) (before after : List Known)
-    (replies : List (List RaceReply)) : Type 0 where
+pub record HaveDone (ticker : SharedTicker) (actions : List (List Action))
+    (before after : List Known) (replies : List (List RaceReply)) : Type 0 where
   pub olds : List Actor
   pub news : List Actor
-  pub acted : HaveActed actions olds news
+  pub acted : HaveActed ticker actions olds news
   pub began : map (λ a. a.caller) olds ≡ before
   pub ended : after ≡ map (λ a. a.caller) news
   pub replied : replies ≡ map (λ a. a.replies) news

@@ -11,7 +11,10 @@ use Rattle.tk_clock.specs.Journal.{Journal, prefix}
 use Rattle.tk_clock.specs.State.{base_of}
 use Rattle.tk_keeper.specs.Keeper.{entry_at}
 use Rattle.tk_shared.specs.Callers.{IsRefusalAfter, made_by}
+use Rattle.tk_now.specs.declared.counter.SharedTicker.{SharedTicker}
+use Rattle.tk_now.specs.Ticker.{IsTick}
 use Rattle.tk_shared.specs.Now.{IsResultAt}
+use Rattle.tk_shared.specs.Readings.{IsReading}
 use Rattle.tk_race.specs.declared.action.Action.{Action}
 use Rattle.tk_race.specs.declared.action.Action.TheVariants.{Order, Look, Glance, Now}
 use Rattle.tk_race.specs.declared.action.RaceReply.{RaceReply}
@@ -27,7 +30,7 @@ HasEntry history number id cmd =
     (reading : ℕ) × (entry_at history number ≡ Some (order_of id reading cmd))
 
 -- at some reading of the counter the command is refused for this reason after the first `front`
--- entries of the history, which are at least as many as the actor knew of
+-- entries of the history, which are at least as many as the actor knew of. A race folds no entry
 pub record IsRefusedIn (history : Journal) (id known : ℕ) (cmd : Command) (refusal : Refusal)
     : Type 0 where
   pub front : ℕ
@@ -35,20 +38,21 @@ pub record IsRefusedIn (history : Journal) (id known : ℕ) (cmd : Command) (ref
   pub least : known ≤ front
   pub within : front ≤ length history.entries
   pub masked : reading ≤ mask history.opening.counter
-  pub reason : IsRefusalAfter (prefix front history) (order_of id reading cmd) refusal
+  pub reason : IsRefusalAfter 0 (prefix front history) (order_of id reading cmd) refusal
 
--- at some reading of the counter this is the clock's result after the first `front` entries of the
+-- at some reading of the ticker this is the clock's result after the first `front` entries of the
 -- history, which are at least as many as the actor knew of
-pub record IsTimedIn (history : Journal) (known : ℕ) (clock : ClockId) (front : ℕ)
-    (result : Result Timespec ReadError) : Type 0 where
+pub record IsTimedIn (ticker : SharedTicker) (history : Journal) (known : ℕ) (clock : ClockId)
+    (front : ℕ) (result : Result Timespec ReadError) : Type 0 where
   pub reading : ℕ
+  pub ticked : IsReading IsTick ticker history.opening.counter reading
   pub least : known ≤ front
   pub within : front ≤ length history.entries
   pub masked : reading ≤ mask history.opening.counter
   pub read : IsResultAt (base_of (prefix front history)) clock reading result
 
 -- the reply to an action is right, when the actor's replies so far state this front and this mark
-module _ (history : Journal) (id front mark : ℕ) where
+module _ (ticker : SharedTicker) (history : Journal) (id front mark : ℕ) where
   abbrev pub IsReply : Action → RaceReply → Type 0
   IsReply (Order cmd) (Done number) =
       (front < number) × (mark < number) × HasEntry history number id cmd
@@ -57,8 +61,9 @@ module _ (history : Journal) (id front mark : ℕ) where
   IsReply Glance (Glanced read) = (mark ≤ read) × (read ≤ length history.entries)
   IsReply Glance (Moved first last) =
       (2 * mark ≤ first) × (first < last) × (last / 2 ≤ length history.entries)
-  IsReply (Now clock) (Timed read time) = IsTimedIn history front clock read (Ok time)
-  IsReply (Now clock) (Untimed read refusal) = IsTimedIn history front clock read (Err refusal)
+  IsReply (Now clock) (Timed read time) = IsTimedIn ticker history front clock read (Ok time)
+  IsReply (Now clock) (Untimed read refusal) =
+      IsTimedIn ticker history front clock read (Err refusal)
   IsReply _ _ = ⊥
 
 -- the front after a reply: the number that the last done order, look or time stated; right replies
@@ -80,12 +85,13 @@ mark_after mark (Moved first last) = last / 2
 mark_after mark _ = mark
 
 -- there is one right reply to each action, in order
-abbrev pub AreReplies : Journal → ℕ → ℕ → ℕ → List Action → List RaceReply → Type 0
-AreReplies history id front mark [] [] = Unit {0}
-AreReplies history id front mark (action ∷ actions) (reply ∷ replies) =
-    IsReply history id front mark action reply
-    × AreReplies history id (front_after front reply) (mark_after mark reply) actions replies
-AreReplies history id front mark _ _ = ⊥
+abbrev pub AreReplies : SharedTicker → Journal → ℕ → ℕ → ℕ → List Action → List RaceReply →
+    Type 0
+AreReplies ticker history id front mark [] [] = Unit {0}
+AreReplies ticker history id front mark (action ∷ actions) (reply ∷ replies) =
+    IsReply ticker history id front mark action reply
+    × AreReplies ticker history id (front_after front reply) (mark_after mark reply) actions replies
+AreReplies ticker history id front mark _ _ = ⊥
 
 -- the number of orders that were done, in one reply and in a list of replies
 abbrev pub done_by : RaceReply → ℕ
@@ -114,7 +120,7 @@ times_in replies = sum_by times_by replies
 
 -- an actor's part: its replies are right, and the number of its entries is the number of its done
 -- orders
-pub record IsActed (history : Journal) (id : ℕ) (actions : List Action) (replies : List RaceReply)
-    : Type 0 where
-  pub right : AreReplies history id 0 0 actions replies
+pub record IsActed (ticker : SharedTicker) (history : Journal) (id : ℕ) (actions : List Action)
+    (replies : List RaceReply) : Type 0 where
+  pub right : AreReplies ticker history id 0 0 actions replies
   pub own : made_by id history.entries ≡ done_in replies

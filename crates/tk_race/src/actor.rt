@@ -50,7 +50,7 @@ fn answer<L: Named, R: Wait>(
     caller: &mut Caller<L>,
     action: Action,
 ) -> RaceReply
-    ensures right { IsAnswer caller.old caller.new action result }
+    ensures right { IsAnswer counter.now caller.old caller.new action result }
     ensures found { IsFound caller.old.learnt.found caller.new.learnt.found result }
 {
     match action {
@@ -85,7 +85,7 @@ pub(crate) fn act<L: Named, G: Gate, R: Wait>(
     actor: Actor<L>,
 ) -> Actor<L>
     requires ready { IsReady actions.now actor }
-    ensures { HasActed actor.caller result.caller actions.now result.replies }
+    ensures { HasActed track.now.counter.now actor.caller result.caller actions.now result.replies }
 {
     let (keeper, counter) = (track.keeper, track.counter);
     track.gate.before(piece);

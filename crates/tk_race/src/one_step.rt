@@ -1,3 +1,5 @@
+ghost use Rattle.std.specs.Prelude.{◌≡◌};
+
 use std::cell::Cell;
 use tk_now::{Look, SharedCounter, SharedTicker};
 
@@ -14,7 +16,9 @@ pub(crate) struct OneStep<'c> {
 
 impl<'c> OneStep<'c> {
     /// Returns a reader that has not read yet.
-    pub(crate) fn of(ticker: &'c SharedTicker) -> OneStep<'c> {
+    pub(crate) fn of(ticker: &'c SharedTicker) -> OneStep<'c>
+        ensures { result.ticker.now ≡ ticker.now }
+    {
         OneStep {
             ticker,
             is_read: Cell::new(false),
@@ -23,9 +27,9 @@ impl<'c> OneStep<'c> {
 }
 
 impl<'c> SharedCounter for OneStep<'c> {
-    ghost use Rattle.std.specs.Prelude.{◌<◌, ◌^◌};
+    ghost use Rattle.tk_now.specs.Ticker.{IsTick};
 
-    ghost answers = { λ _ _ answer. answer < 2 ^ 64 };
+    ghost answers = { λ one _ answer. IsTick one.ticker.now answer };
 
     fn read(&self, look: &Look) -> u64 {
         if self.is_read.replace(true) {

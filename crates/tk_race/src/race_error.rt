@@ -3,12 +3,12 @@ ghost use Rattle.tk_race.specs.RaceError.{error_of, error_text};
 ghost use Rattle.tk_race.specs.declared.race_error.RaceError.TheVariants.{Memory};
 
 use std::alloc::AllocError;
-use std::error::Error;
 use std::fmt;
+use thiserror::Error;
 use tk_shared::OpenError;
 
 /// Says why a race returns no report: the first variant that applies, in this order.
-#[derive(Clone, Copy, Debug, PartialEq, Eq)]
+#[derive(Clone, Copy, Debug, PartialEq, Eq, Error)]
 pub enum RaceError {
     /// The number of actors is below 1 or above 64.
     Count,
@@ -32,8 +32,6 @@ impl fmt::Display for RaceError {
         })
     }
 }
-
-impl Error for RaceError {}
 
 impl From<AllocError> for RaceError {
     ghost from_gives = { λ _ error. error ≡ Memory };

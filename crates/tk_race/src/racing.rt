@@ -50,7 +50,7 @@ pub fn race<G: Gate + Sync, R: Threads + Wait + Sync>(
 ) -> Result<RaceReport, RaceError>
     ensures { MatchResult result
         (λ report. (race_error (length actors.now) desc reading real ≡ None)
-        × IsRaced desc real (map (λ a. a.items) actors.now) report.keeper.journal
+        × IsRaced desc reading step real (map (λ a. a.items) actors.now) report.keeper.journal
         (map (λ r. r.items) report.replies.items))
         (λ error. IsRaceError (length actors.now) desc reading real error) }
 {
@@ -109,7 +109,7 @@ fn raced<L: Named + Send + Sync, G: Gate + Sync, R: Threads + Wait + Sync>(
     requires room { min (sum_by (λ a. orders_in a.items) actions.now) listed_most
         ≤ prepared.spare }
     ensures { MatchResult result
-        (λ report. IsOutcome prepared.entry.journal (map (λ a. a.items) actions.now)
+        (λ report. IsOutcome counter.now prepared.entry.journal (map (λ a. a.items) actions.now)
         report.keeper.journal (map (λ r. r.items) report.replies.items))
         IsLate }
 {
@@ -143,8 +143,8 @@ fn act_all<L: Named + Send + Sync, G: Gate + Sync, R: Threads + Wait + Sync>(
 ) -> Result<(Vec<Caller<L>>, Vec<Vec<RaceReply>>), RaceError>
     requires { vec_len callers ≡ length actions.now }
     ensures { MatchResult result
-        (λ done. HaveDone (map (λ a. a.items) actions.now) callers.items done.0.items
-        (map (λ r. r.items) done.1.items))
+        (λ done. HaveDone track.now.counter.now (map (λ a. a.items) actions.now) callers.items
+        done.0.items (map (λ r. r.items) done.1.items))
         IsLate }
 {
     let mut back = Vec::with_capacity(alloc, actions.len())?;

@@ -9,21 +9,25 @@ use std::snapshot::Snapshot;
 use std::sync::Wait;
 use std::thread;
 use std::thread::{Promise, PromisedHandle, Scope, Threads};
+use tk_now::SharedTicker;
 use tk_pieces::Gate;
 use tk_shared::{Caller, Named};
 
-/// States the promise of an actor's thread: it has done these actions, starting with this caller.
+/// States the promise of an actor's thread: it has done these actions, starting with this caller,
+/// and with times of this counter.
 #[derive(Drop)]
 struct Acts<L: Named> {
     caller: Snapshot<Caller<L>>,
     actions: Snapshot<Vec<Action>>,
+    counter: Snapshot<SharedTicker>,
 }
 
 impl<L: Named> Promise<Actor<L>> for Acts<L> {
     ghost use Rattle.tk_race.specs.Actor.{HasActed};
 
     ghost kept_by = { λ p actor.
-        HasActed p.caller.value actor.caller p.actions.value.items actor.replies };
+        HasActed p.counter.value p.caller.value actor.caller p.actions.value.items
+        actor.replies };
 }
 
 /// Starts an actor's thread. Returns `Threads` if it can't be started.
@@ -38,16 +42,19 @@ fn start<'s, 'c: 'e, 'e, L: Named + Send + Sync + 'e, G: Gate + Sync, R: Threads
     requires ready { IsReady actions.now.items actor }
     ensures { MatchResult result
         (λ handle. (handle.promise.caller.value ≡ actor.caller)
-        × (handle.promise.actions.value ≡ actions.now))
+        × (handle.promise.actions.value ≡ actions.now)
+        × (handle.promise.counter.value ≡ track.now.counter.now))
         (λ error. error ≡ RaceError.Threads) }
 {
     let promise = Acts {
         caller: Snapshot::of(&actor.caller),
         actions: Snapshot::of(actions),
+        counter: Snapshot::of(track.counter),
     };
     let work = move || -> Actor<L>
         requires { IsReady actions.now.items actor }
-        ensures { HasActed actor.caller result.caller actions.entry.now.items result.replies }
+        ensures { HasActed track.entry.now.counter.now actor.caller result.caller
+            actions.entry.now.items result.replies }
     { act(rt, track, piece, actions.as_slice(), actor) };
     match scope.spawn_with(promise, work) {
         Ok(handle) => Ok(handle),
@@ -66,7 +73,8 @@ fn start_all<'s, 'c: 'e, 'e, L: Named + Send + Sync + 'e, G: Gate + Sync, R: Thr
 ) -> Result<Vec<Actor<L>>, RaceError>
     requires ready { AreReady (map (λ a. a.items) actions.now) actors.items }
     ensures acted { MatchResult result
-        (λ back. HaveActed (map (λ a. a.items) actions.now) actors.items back.items)
+        (λ back. HaveActed track.now.counter.now (map (λ a. a.items) actions.now) actors.items
+        back.items)
         (λ error. error ≡ RaceError.Threads) }
     ensures room { IfOk result (λ back. vec_capacity back ≡ vec_capacity actors) }
 {
@@ -91,7 +99,8 @@ pub(crate) fn act_at_once<L: Named + Send + Sync, G: Gate + Sync, R: Threads + W
 ) -> Result<Vec<Actor<L>>, RaceError>
     requires ready { AreReady (map (λ a. a.items) actions.now) actors.items }
     ensures { MatchResult result
-        (λ back. HaveActed (map (λ a. a.items) actions.now) actors.items back.items)
+        (λ back. HaveActed track.now.counter.now (map (λ a. a.items) actions.now) actors.items
+        back.items)
         (λ error. error ≡ RaceError.Threads) }
 {
     thread::scope(
@@ -100,7 +109,8 @@ pub(crate) fn act_at_once<L: Named + Send + Sync, G: Gate + Sync, R: Threads + W
         move |scope| -> Result<Vec<Actor<L>>, RaceError>
             requires { AreReady (map (λ a. a.items) actions.now) actors.items }
             ensures { MatchResult result
-                (λ back. HaveActed (map (λ a. a.items) actions.entry.now) actors.items back.items)
+                (λ back. HaveActed track.entry.now.counter.now
+                (map (λ a. a.items) actions.entry.now) actors.items back.items)
                 (λ error. error ≡ RaceError.Threads) }
         { start_all(scope, rt, track, actions, actors) },
     )

@@ -1,5 +1,5 @@
-//! Tests `tk_shared` and `tk_race` only through their public calls. It is a separate crate, so that
-//! CI proves the code under test once.
+//! Tests `tk_shared` only through its public calls. It is a separate crate, so that CI proves the
+//! code under test once.
 #![tactic(auto)]
 
 #[cfg(test)]

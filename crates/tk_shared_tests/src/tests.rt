@@ -1,6 +1,5 @@
 //! Tests values that contracts do not fix, the edges of each range, and threads.
 
-mod race;
 mod shared;
 
 use std::fmt::Debug;

@@ -5,8 +5,8 @@ use Rattle.tk_race.proofs.racing.act_all.Goals as goal
 pub part-requires-clause-room : goal.part-requires-clause-room
 part-requires-clause-room g c =
     let many =
-    many_acted (λ a. a.items) c.args.actions.now c.in_ok-actors.actors.items
-    c.in_ok-acted.acted.items c.in_ok-actors.ensures.ready c.in_ok-acted.ensures in
+    many_acted c.args.track.now.counter.now (λ a. a.items) c.args.actions.now
+    c.in_ok-actors.actors.items c.in_ok-acted.acted.items c.in_ok-actors.ensures.ready c.in_ok-acted.ensures in
     search rules
 
 pub returns : goal.returns

@@ -24,8 +24,8 @@ close-requires-clause-different g c κs within =
     search rules in
     let done = c.in_ok-back.ensures in
     subst AreDifferent (sym done.ended)
-    (all_different start.latch start.notice start.journal start.callers _ done.olds done.news
-    (done.began ∙ known) done.acted)
+    (all_different c.args.counter.now start.latch start.notice start.journal start.callers _
+    done.olds done.news (done.began ∙ known) done.acted)
 
 pub unreachable-requires : goal.unreachable-requires
 unreachable-requires g c =
@@ -33,7 +33,7 @@ unreachable-requires g c =
     let known : c.in-Ok.callers.items ≡ newcomers start.latch start.notice start.journal start.callers =
     search rules in
     let many = ap length known ∙ length-newcomers start.latch start.notice start.journal start.callers in
-    let back = many_done _ _ _ _ c.in_ok-back.ensures in
+    let back = many_done _ _ _ _ _ c.in_ok-back.ensures in
     let len : vec_len c.in_ok-back.back ≡ length c.in_ok-back.back.items = search rules in
     let few = c.in_default-close.ensures.0 in
     let keeper : c.in-Ok.keeper ≡ c.args.prepared.callers = search rules in
@@ -47,6 +47,7 @@ returns g c =
     let some = c.requires.some in
     let each = length-map c.args.actions.now (λ (a : Vec Action). a.items) in
     let done = c.in_ok-back.ensures in
-    outcome start.latch start.notice start.journal c.in-Ok-close.closed.keeper.journal start.callers _
-    done.olds done.news c.in_ok-back.back.items _ (omega (arith, some, each)) (done.began ∙ known)
-    done.acted done.ended done.replied c.in-Ok-close.ensures.1
+    outcome c.args.counter.now start.latch start.notice start.journal
+    c.in-Ok-close.closed.keeper.journal start.callers _ done.olds done.news
+    c.in_ok-back.back.items _ (omega (arith, some, each)) (done.began ∙ known) done.acted
+    done.ended done.replied c.in-Ok-close.ensures.1

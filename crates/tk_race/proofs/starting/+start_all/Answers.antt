@@ -1,5 +1,6 @@
 use Rattle.std.proofs.Common.{◌≡◌, ℕ, ◌<◌, ◌++◌, ◌∷◌, [], List, length, map, ap, subst, ◌∙◌, rules, arith, length-append}
 use Rattle.std.proofs.lemmas.Slice.Zip.{AllZip-long}
+use Rattle.tk_now.specs.declared.counter.SharedTicker.{SharedTicker}
 use Rattle.tk_shared.specs.Callers.{Known}
 use Rattle.tk_race.specs.declared.action.Action.{Action}
 use Rattle.tk_race.specs.Actor.{AreReady, HasActed, IsReady}
@@ -39,7 +40,7 @@ start_all-requires-clause-ready g t c κs within =
 
 pub push_reserved-requires : goal.push_reserved-requires
 push_reserved-requires g t c =
-    let same = acted_length _ _ _ c.in_ok-back.ensures.acted in
+    let same = acted_length _ _ _ _ c.in_ok-back.ensures.acted in
     search rules
 
 pub returns-clause-acted : goal.returns-clause-acted
@@ -48,11 +49,14 @@ returns-clause-acted g t c =
     let taken = popped g t (goal.at.returns-clause-acted g t c).After-unwrap-actor in
     let new = c.join.result in
     let promised = c.in_ok-handle.ensures in
-    let acted : HasActed c.unwrap-actor.result.caller new.caller c.in-Some.last.now.items
+    let ticker = c.args.track.now.counter.now in
+    let acted : HasActed ticker c.unwrap-actor.result.caller new.caller c.in-Some.last.now.items
     new.replies =
-    subst (λ (t : Known × List Action). HasActed t.0 new.caller t.1 new.replies)
-    (λ i. (promised.0 i, ap (λ a. a.items) promised.1 i)) c.join.ensures in
-    acted_last (map (λ a. a.items) c.args.actions.now) (map (λ a. a.items) c.in-Some.others.now)
-    c.in-Some.last.now.items c.args.actors.items c.pop.new.self.items c.unwrap-actor.result
+    subst
+    (λ (t : SharedTicker × Known × List Action). HasActed t.0 t.1 new.caller t.2 new.replies)
+    {y = (ticker, c.unwrap-actor.result.caller, c.in-Some.last.now.items)}
+    (λ i. (promised.2 i, promised.0 i, ap (λ a. a.items) promised.1 i)) c.join.ensures in
+    acted_last ticker (map (λ a. a.items) c.args.actions.now)
+    (map (λ a. a.items) c.in-Some.others.now) c.in-Some.last.now.items c.args.actors.items c.pop.new.self.items c.unwrap-actor.result
     c.push_reserved.new.self.items c.in_ok-back.back.items new whole taken
     c.push_reserved.ensures.items c.in_ok-back.ensures.acted acted

@@ -7,11 +7,24 @@ use std::process::Abort;
 use std::sync::Wait;
 use std::test::Fail;
 use tk_clock::{Command, Refusal};
-use tk_shared::{Named, Ticker};
+use tk_shared::{Caller, Named, SharedKeeper, Ticker};
+
+/// Folds. Tests need only the caller's number of its contract.
+fn fold_by<L: Named>(
+    rt: &impl Wait,
+    keeper: &SharedKeeper<L, Ticker>,
+    caller: &mut Caller<L>,
+    keep: u64,
+) -> u64
+    ensures { caller.new.id ≡ caller.old.id }
+{
+    keeper.fold(rt, caller, keep)
+}
 
 #[test]
 fn a_fold_makes_room_again(rt: HostRuntime) -> Result<(), Fail> {
-    does(&rt, rt.alloc(), Ticker::new(0, 0), Deed::Fills)
+    // two steps are more than half the counter's range, and one step isn't
+    does(&rt, rt.alloc(), Ticker::new(0, 3 << 29), Deed::Fills)
 }
 
 pub(super) fn fills<L: Named>(rt: &(impl Wait + Abort), two: &mut Two<L>) -> Result<(), Fail> {
@@ -25,8 +38,12 @@ pub(super) fn fills<L: Named>(rt: &(impl Wait + Abort), two: &mut Two<L>) -> Res
     let refused = commanded(rt, keeper, caller, Command::Update);
     assert_same(rt, &refused, &Err(Refusal::Full));
     // a refused command folds nothing
-    assert_same(rt, &keeper.fold(rt, 1_048_576), &0);
-    assert_same(rt, &keeper.fold(rt, 1), &1_048_575);
+    assert_same(rt, &fold_by(rt, keeper, caller, 1_048_576), &0);
+    assert_same(rt, &fold_by(rt, keeper, caller, 1), &1_048_575);
+    assert_same(rt, &caller.folded(), &1_048_575);
+    // the refused command read the counter too
+    let behind = commanded(rt, keeper, caller, Command::Update);
+    assert_same(rt, &behind, &Err(Refusal::Behind));
     let accepted = commanded(rt, keeper, caller, Command::Update);
     assert_same(rt, &accepted, &Ok(1_048_577));
     Ok(())
@@ -45,7 +62,8 @@ pub(super) fn keeps<L: Named>(rt: &(impl Wait + Abort), two: &mut Two<L>) -> Res
     }
     // the number of entries to keep listed, and the number of folded ones after the call
     for (keep, folded) in [(u64::MAX, 0), (5, 0), (2, 3), (4, 3), (0, 5)] {
-        assert_same(rt, &keeper.fold(rt, keep), &folded);
+        assert_same(rt, &keeper.fold(rt, caller, keep), &folded);
+        assert_same(rt, &caller.folded(), &folded);
     }
     Ok(())
 }
@@ -67,7 +85,7 @@ pub(super) fn folds<L: Named>(rt: &(impl Wait + Abort), two: Two<L>) -> Result<(
     let first = commanded(rt, &keeper, &mut one, Command::Update);
     let second = commanded(rt, &keeper, &mut other, Command::Update);
     let third = commanded(rt, &keeper, &mut one, Command::Update);
-    let folded = keeper.fold(rt, 1);
+    let folded = fold_by(rt, &keeper, &mut one, 1);
     let fronts = (one.front(), other.front());
     let seen = read_by(rt, &keeper, &mut one).front();
     let fast = glanced(&keeper, &mut other).is_ok_and(|seen| seen.front() == 3);

@@ -112,7 +112,7 @@ fn gives_commands<L: Named, C: Counter, R: Wait>(
             }
         }
         if turn % 1_024 == 0 {
-            keeper.fold(rt, 16);
+            keeper.fold(rt, caller, 16);
         }
         thread::yield_now();
     }

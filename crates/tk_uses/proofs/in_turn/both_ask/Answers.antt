@@ -1,4 +1,4 @@
-use Rattle.std.proofs.Common.{rules, refl, sym, subst}
+use Rattle.std.proofs.Common.{arith, rules, refl, sym, subst}
 use Rattle.std.specs.Prelude.{IfSome}
 use Rattle.tk_clock.specs.Journal.{Opening}
 use Rattle.tk_clock.proofs.Lists.{prefix_self}
@@ -25,7 +25,7 @@ compared-requires-clause-asked g c κs within =
       handed = known_by_trans first.caller c.follow.new.other c.follow.new.caller handed told.follows;
       known = handed;
       known' = knows_as_much later.caller later.caller refl refl refl
-          (prefix_self later.caller.noticed.log);
+          (prefix_self later.caller.noticed.log) (omega arith);
     }
 
 pub compared-requires-clause-trusted : goal.compared-requires-clause-trusted

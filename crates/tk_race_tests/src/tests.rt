@@ -6,8 +6,9 @@ mod memory;
 mod replies;
 mod times;
 
-use super::assert_same;
 use std::alloc::{AllocError, Global};
+use std::fmt::Debug;
+use std::process::Abort;
 use std::sync::Wait;
 use std::test::Fail;
 use std::thread::Threads;
@@ -60,4 +61,10 @@ fn rise(mut last: u64, replies: &[RaceReply]) -> bool {
         last = number;
     }
     true
+}
+
+/// Stops the test if `found` is not equal to `wanted`. It is a separate call to keep the proof of
+/// each test short.
+fn assert_same<T: PartialEq + Debug>(rt: &impl Abort, found: &T, wanted: &T) {
+    assert_eq!(rt; found, wanted);
 }
