@@ -15,7 +15,8 @@ trace='$program trace monotonic'
 
 for given in 'trace' 'trace tai' 'trace tai script' 'trace tai script stamps more' 'trace TAI script stamps' \
     'trace utc script stamps' 'trace tai script --stamps' "trace tai script \$'\\377'" 'trace --help'; do
-    expect "the words $given" 2 "$words" 0 '' "\$program $given"
+    expect "the words $given" 2 "$words" "$usage_lines" "$usage_end" \
+        "\$program $given"
 done
 expect 'a trace' 0 '' 3 1000499964 "$trace script stamps"
 expect 'a trace of a pipe' 0 '' 3 1000499964 "$trace <(cat script) <(cat stamps)"
@@ -69,13 +70,13 @@ stops 'too little memory' 'out of memory' "ulimit -v 60000 && $trace script most
 stops 'a full disk' 'cannot write' "$trace script stamps >/dev/full"
 stops 'no output' 'cannot write' "$trace script stamps >&-"
 expect 'no input' 0 '' 3 1000499964 "$trace script stamps <&-"
-stops 'a pipe that nobody reads' 'cannot write' \
-    "{ sleep 0.2; $trace script stamps; echo \$? >status; } | true; exit \$(cat status)"
+stops 'a pipe that nobody reads' 'cannot write' "$unread $trace script stamps >&4"
 
 printf '%s\nset,5,7\n' "$opening" >bad
 for given in 'many' 'many 1' 'many 0 script' 'many 65 script' 'many +1 script' 'many 18446744073709551617 script' \
     'many x script' 'many script 1' "many 1 \$'\\377'" 'many --help'; do
-    expect "the words $given" 2 "$words" 0 '' "\$program $given"
+    expect "the words $given" 2 "$words" "$usage_lines" "$usage_end" \
+        "\$program $given"
 done
 for workers in 1 2 064; do
     expect "reports by $workers" 0 '' 8 'ok,2,1.000499963' "\$program many $workers script script"
@@ -97,7 +98,8 @@ stops 'many without output' 'cannot write' "$many script >&-"
 stops 'many with too little memory' 'out of memory' "ulimit -v 60000 && $many blank blank blank"
 for given in 'race' 'race 1' 'race -1 script' 'race +1 script' 'race x script' 'race 18446744073709551616 script' \
     'race script 1' "race 1 \$'\\377'" 'race --help'; do
-    expect "the words $given" 2 "$words" 0 '' "\$program $given"
+    expect "the words $given" 2 "$words" "$usage_lines" "$usage_end" \
+        "\$program $given"
 done
 race='$program race 1000'
 expect 'a race of one' 0 '' 2 'actor,0,2,0' "$race script"

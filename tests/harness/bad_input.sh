@@ -9,7 +9,8 @@ set -u
 
 for given in '--keep 1' 'replay --keep' 'replay --keep 0' 'replay --keep 524289' 'replay --keep +1' 'replay --help' \
     '--help' 'help' '--version' 'many' "replay --keep \$'\\377'" "\$'\\377'"; do
-    expect "the words $given" 2 "$words" 0 '' "\$program $given <\$row"
+    expect "the words $given" 2 "$words" "$usage_lines" "$usage_end" \
+        "\$program $given <\$row"
 done
 for given in '' 'replay' 'replay --keep 007' 'replay --keep=524288'; do
     expect "the words '$given'" 0 '' 5 'no,behind' "\$program $given <\$row"
@@ -19,9 +20,11 @@ stops 'a folder as input' 'cannot read' '$program </'
 stops 'no input' 'cannot read' '$program <&-'
 stops 'a full disk as output' 'cannot write' '$program <$row >/dev/full'
 stops 'no output' 'cannot write' '$program <$row >&-'
-stops 'a pipe that nobody reads' 'cannot write' \
-    '{ sleep 0.2; $program <$row; echo $? >$work/status; } | true; exit $(cat $work/status)'
+stops 'a pipe that nobody reads' 'cannot write' "$unread \$program <\$row >&4"
 expect 'a fault that nobody hears' 1 '' 0 '' '$program </ 2>/dev/full'
+expect 'refused words on a full disk' 2 "$words" 0 '' '$program --help >/dev/full'
+expect 'refused words without output' 2 "$words" 0 '' '$program --help >&-'
+expect 'a usage after a line that nobody hears' 2 '' "$usage_lines" "$usage_end" '$program help 2>/dev/full'
 
 opening_fault='script: record 1: not a valid opening'
 large='script: larger than 16777216 bytes'

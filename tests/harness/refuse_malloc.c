@@ -8,6 +8,8 @@
  *   REFUSE_STARTING=N  the Nth request for memory that is made inside pthread_create, by any thread
  *   REFUSE_OTHERS=N    the Nth other request for memory, over all threads but the first
  *   REFUSE_THREADS=N   the Nth request for a thread, and every later one
+ *   HOLD_STARTED=1     no request: each thread that is started waits before it does anything, until the
+ *                      thread that started it sleeps
  *   REFUSE_MARK=PATH   the file that is made when a request is refused. A caller can count N up until
  *                      a run leaves no such file
  *
@@ -20,8 +22,11 @@
 #include <errno.h>
 #include <fcntl.h>
 #include <pthread.h>
+#include <sched.h>
 #include <stddef.h>
+#include <stdio.h>
 #include <stdlib.h>
+#include <string.h>
 #include <unistd.h>
 
 extern void *__libc_malloc(size_t size);
@@ -39,7 +44,7 @@ static const char *const kind_names[KINDS] = {"REFUSE", "REFUSE_FIRST", "REFUSE_
 /* Of each kind, the number of the refused request, 0 if none is refused, and the number of requests
  * that were made. */
 static long refused[KINDS], requests[KINDS];
-static long first_refused_thread, threads;
+static long first_refused_thread, threads, is_holding;
 
 static const char *mark;
 static pthread_create_fn *next_pthread_create;
@@ -59,6 +64,7 @@ __attribute__((constructor)) static void read_environment(void)
     next_pthread_create = (pthread_create_fn *)dlsym(RTLD_NEXT, "pthread_create");
     mark = getenv("REFUSE_MARK");
     first_refused_thread = number_of("REFUSE_THREADS");
+    is_holding = number_of("HOLD_STARTED");
     is_first = 1;
     for (int kind = 0; kind < KINDS; kind++) {
         requests[kind] = 0;
@@ -112,6 +118,55 @@ void *realloc(void *block, size_t size)
     return is_refused() ? NULL : __libc_realloc(block, size);
 }
 
+/* Whether this thread of the process sleeps. */
+static int is_asleep(pid_t thread)
+{
+    char path[64], text[256];
+    const char *state;
+    ssize_t length;
+    int file;
+
+    snprintf(path, sizeof path, "/proc/self/task/%d/stat", (int)thread);
+    file = open(path, O_RDONLY | O_CLOEXEC);
+    if (file < 0)
+        abort();
+    length = read(file, text, sizeof text - 1);
+    if (close(file) || length < 0)
+        abort();
+    text[length] = '\0';
+    /* the state follows the name, which is in parentheses */
+    state = strrchr(text, ')');
+    return state && strncmp(state, ") S", 3) == 0;
+}
+
+/* The start of a thread that is held until its starter sleeps. */
+struct held {
+    pid_t starter;
+    void *(*start)(void *);
+    void *argument;
+};
+
+static void *start_held(void *argument)
+{
+    struct held held = *(struct held *)argument;
+
+    free(argument);
+    while (!is_asleep(held.starter))
+        sched_yield();
+    return held.start(held.argument);
+}
+
+static int create_held(pthread_t *thread, const pthread_attr_t *attributes,
+                       void *(*start)(void *), void *argument)
+{
+    struct held *held = __libc_malloc(sizeof *held);
+
+    if (!held)
+        abort();
+    *held = (struct held){gettid(), start, argument};
+    return next_pthread_create(thread, attributes, start_held, held);
+}
+
 int pthread_create(pthread_t *thread, const pthread_attr_t *attributes, void *(*start)(void *),
                    void *argument)
 {
@@ -122,6 +177,8 @@ int pthread_create(pthread_t *thread, const pthread_attr_t *attributes, void *(*
     is_starting = 1;
     if (first_refused_thread && number >= first_refused_thread)
         leave_mark();
+    else if (is_holding)
+        error = create_held(thread, attributes, start, argument);
     else
         error = next_pthread_create(thread, attributes, start, argument);
     is_starting = 0;

@@ -8,7 +8,21 @@ import tempfile
 
 from program import OPENING, PROGRAM, SECONDS, SHORT, Case, Ending, run
 
-REFUSED = Ending(2, "words refused", "")
+USAGE = """\
+tkcore 0.3.0 computes the clocks of Linux from readings of a counter.
+
+  tkcore < SCRIPT                    writes the report of a script of commands
+  tkcore replay [--keep N] < SCRIPT  folds its journal to N entries, 1 to 524288
+  tkcore trace CLOCK SCRIPT STAMPS   writes CLOCK in ns at each stamp of a file
+  tkcore many WORKERS FILE..         writes reports, made by 1 to 64 threads
+  tkcore race STEP FILE..            runs scripts concurrently on shared clocks
+
+CLOCK: realtime, monotonic, boottime, tai, monotonic_raw, realtime_coarse or
+monotonic_coarse. A name that begins with - must come after --.
+Status: 0 done, 1 a fault, 2 these arguments refused, 3 a read differs.
+The manual page tkcore(1) describes scripts, reports and faults.
+"""
+REFUSED = Ending(2, "words refused", USAGE)
 
 UPDATED = OPENING + "update,7\n"
 
@@ -52,6 +66,30 @@ class Words(Case):
         for words in lines:
             with self.subTest(words=words):
                 self.assertEqual(REFUSED, run(*words, given=OPENING, files={"a": OPENING}))
+
+    def test_the_usage_follows_the_line_of_error(self):
+        ran = subprocess.run([PROGRAM, "--help"], stdin=subprocess.DEVNULL, stdout=subprocess.PIPE,
+                             stderr=subprocess.STDOUT, timeout=SECONDS, check=False)
+        self.assertEqual((2, "tkcore: words refused\n" + USAGE),
+                         (ran.returncode, ran.stdout.decode()))
+
+    def test_the_usage_is_left_out_if_it_cannot_be_written(self):
+        for output in "/dev/full", "/dev/null":
+            with self.subTest(output), open(output, "wb") as writer:
+                ran = subprocess.run([PROGRAM, "replay", "x"], stdin=subprocess.DEVNULL,
+                                     stdout=writer, stderr=subprocess.PIPE, timeout=SECONDS,
+                                     check=False)
+                self.assertEqual((2, b"tkcore: words refused\n"), (ran.returncode, ran.stderr))
+
+    def test_each_clock_and_number_of_the_usage_is_taken(self):
+        names = USAGE.partition("CLOCK: ")[2].partition(". A name")[0]
+        for clock in names.replace(" or\n", ", ").split(", "):
+            words = ["trace", clock, "a", "none"]
+            self.check_text("", *words, files={"a": OPENING, "none": ""})
+        for words in ["replay --keep 1", "replay --keep 524288"]:
+            self.assertEqual(0, run(*words.split(), given=OPENING).status)
+        for workers in "1", "64":
+            self.assertEqual(0, run("many", workers, "a", files={"a": OPENING}).status)
 
     def test_standard_input_is_left_to_others(self):
         for words, status in [("replay --keep 0", 2), ("trace tai a none", 0), ("many 1 a", 0),

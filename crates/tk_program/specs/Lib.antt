@@ -1,6 +1,7 @@
 pub mod Arguments
 pub mod Ending
 pub mod Running
+pub mod Usage
 pub mod ManyText
 pub mod Openings
 pub mod RaceText

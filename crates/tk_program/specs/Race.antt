@@ -144,36 +144,37 @@ module _ {W : Type 0} (contents : W → Option (List ℕ))
       ⊎ EndsWriting contents write_gives flush_gives writer writer'
       (race_lines (accepted_count journal) replies) endings.Done ending
 
-  -- `count` parts were raced on clocks with this script's opening; or there are too many, an
-  -- allocation failed or a thread was not started, and nothing is written. The opening is always
-  -- valid
-  abbrev pub EndsParts : Racer → ℕ → List (List Action) → Ending → Type 0
-  EndsParts first count parts ending =
+  -- `count` parts were raced on clocks with this script's opening, with a counter of this step; or
+  -- there are too many, an allocation failed or a thread was not started, and nothing is written.
+  -- The opening is always valid
+  abbrev pub EndsParts : ℕ → Racer → ℕ → List (List Action) → Ending → Type 0
+  EndsParts step first count parts ending =
       ((error : RaceError) × (ending ≡ endings.Race error)
       × IsRaceError count first.opening.desc first.opening.reading first.opening.real error
       × (error ≢ races.Invalid) × (writer' ≡ writer))
       ⊎ ((journal : Journal) × (replies : List (List RaceReply))
       × (race_error count first.opening.desc first.opening.reading first.opening.real ≡ None)
-      × IsRaced first.opening.desc first.opening.real parts journal replies
+      × IsRaced first.opening.desc first.opening.reading step first.opening.real parts journal
+      replies
       × EndsWritten journal replies ending)
 
   -- scripts were raced, an actor for each; or they don't all open their clocks as the first one,
   -- and nothing is written
-  abbrev pub EndsScripts : List Racer → Ending → Type 0
-  EndsScripts [] ending = (ending ≡ endings.Race races.Count) × (writer' ≡ writer)
-  EndsScripts (first ∷ others) ending =
+  abbrev pub EndsScripts : ℕ → List Racer → Ending → Type 0
+  EndsScripts step [] ending = (ending ≡ endings.Race races.Count) × (writer' ≡ writer)
+  EndsScripts step (first ∷ others) ending =
       ((All (OpensAs first) others → ⊥) × (ending ≡ endings.Openings)
       × (writer' ≡ writer))
       ⊎ (All (OpensAs first) others
-      × EndsParts first (length (first ∷ others)) (map part_of (first ∷ others)) ending)
+      × EndsParts step first (length (first ∷ others)) (map part_of (first ∷ others)) ending)
 
   -- the files of these names were read one after the other, and their scripts were raced; or one of
   -- them gives no script, and nothing is written
   abbrev pub EndsRace : {D F : Type 0} → (D → List ℕ → Option F → Type 0) →
       (F → Option (List ℕ)) → (F → Option ℕ → F → Type 0) →
-      D → List (Bor (List ℕ)) → Ending → Type 0
-  EndsRace open_gives remaining read_gives folder names ending =
+      D → ℕ → List (Bor (List ℕ)) → Ending → Type 0
+  EndsRace open_gives remaining read_gives folder step names ending =
       (StopsScripts open_gives remaining read_gives folder names ending × (writer' ≡ writer))
       ⊎ ((scripts : List Racer)
       × AreScriptsFrom open_gives remaining read_gives folder names scripts
-      × EndsScripts scripts ending)
+      × EndsScripts step scripts ending)

@@ -87,7 +87,7 @@ module _ {R W D F : Type 0} (remaining : R → Option (List ℕ)) (read_gives : 
   Ends (Some (Race step files)) ending = (reader' ≡ reader)
       × ((names : List (Bor Text)) × (map (λ name. name.now) names ≡ files)
       × EndsRace contents write_gives flush_gives writer writer'
-      open_gives file_remaining file_gives folder names ending)
+      open_gives file_remaining file_gives folder step names ending)
 
   -- the arguments ended in this way: as their request does, or an allocation failed before it was
   -- known

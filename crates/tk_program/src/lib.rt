@@ -29,6 +29,7 @@ mod reports_text;
 mod running;
 mod scripts;
 mod tracing;
+mod usage;
 mod writing;
 
 pub use arguments::Arguments;

@@ -33,7 +33,7 @@ pub(crate) fn answer<E: Threads + Wait + Sync, D: Folder, W: Sink>(
     ensures { EndsRace W.Write.contents W.Sink.write_gives W.Sink.flush_gives
         writer.old writer.new
         D.Folder.open_gives D.File.Read.remaining D.File.Source.read_gives folder.now
-        files.now result }
+        step files.now result }
 {
     let scripts = match read_scripts(alloc, folder, files) {
         Ok(scripts) => scripts,
@@ -65,7 +65,7 @@ fn race_all<E: Threads + Wait + Sync, W: Sink>(
     requires count { length actors.now ≡ length scripts.now }
     requires parts { map (λ a. a.items) actors.now ≡ map part_of scripts.now }
     ensures { EndsScripts W.Write.contents W.Sink.write_gives W.Sink.flush_gives
-        writer.old writer.new scripts.now result }
+        writer.old writer.new step scripts.now result }
 {
     let Some((first, others)) = scripts.split_first() else {
         return Ending::Race(RaceError::Count);
@@ -89,7 +89,7 @@ fn race_as<E: Threads + Wait + Sync, W: Sink>(
     requires { IsOpenable first.now }
     ensures { EndsParts W.Write.contents W.Sink.write_gives W.Sink.flush_gives
         writer.old writer.new
-        first.now (length actors.now) (map (λ a. a.items) actors.now) result }
+        step first.now (length actors.now) (map (λ a. a.items) actors.now) result }
 {
     match race(
         alloc,

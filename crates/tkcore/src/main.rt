@@ -9,8 +9,8 @@
 //! | `race STEP FILE..` | lets the commands of scripts race, a thread for each script |
 //!
 //! Status 0: done. Status 1: a fault, on standard error or in a line of `many`. Status 2: the
-//! arguments are refused. Status 3: a read did not give the value that its record states, which a line
-//! of the report shows. docs/TKCORE.md describes arguments, records, lines and faults.
+//! arguments are refused, and the usage is on standard output. Status 3: a read did not give the value
+//! that its record states, which a line of the report shows. docs/TKCORE.md describes arguments, records, lines and faults.
 #![tactic(auto)]
 
 use std::process::ExitCode;
