@@ -86,14 +86,17 @@
  *   in docs/C.md, "In the Linux kernel". In short:
  *     - Link the archive of `tools/build_c --backend rattle`. The archive of LLVM uses the red zone
  *       below the stack pointer, and requires a stack that is aligned to 16 bytes.
- *     - tkc_snapshot_convert, tkc_ntp_open, tkc_ntp_open_at, tkc_ntp_advance, tkc_ntp_apply,
- *       tkc_adjtimex, tkc_ntp_save and tkc_ntp_load use SSE registers: call them between
- *       kernel_fpu_begin() and kernel_fpu_end(), and only if irq_fpu_usable(). All other calls may
- *       then be made in any context.
+ *     - tkc_snapshot_convert, tkc_ntp_open, tkc_ntp_open_at, tkc_ntp_advance,
+ *       tkc_ntp_advance_late, tkc_ntp_apply, tkc_adjtimex, tkc_ntp_save and tkc_ntp_load use SSE
+ *       registers: call them between kernel_fpu_begin() and kernel_fpu_end(), and only if
+ *       irq_fpu_usable(). All other calls may then be made in any context.
  *   Two threads must not write one value at the same time, and no thread may write a value while
  *   another reads it. The caller's lock must prevent both (as timekeeper_lock does, and tk_core.seq
  *   for readers). tkcore_page.h contains a page for such readers. A reader in an NMI must not wait
  *   for a writer that it interrupted (struct tk_fast).
+ *
+ * AArch64
+ *   Calls may use the vector registers, and there is no archive for kernels.
  *
  * Codes
  *   A call that can fail returns TKC_OK when it is done, and otherwise the code of the first test
@@ -114,10 +117,12 @@
 extern "C" {
 #endif
 
-/* The archive contains code only for x86-64, in the calling convention of System V with 64-bit
- * pointers. Its compilers have no other target. */
-#if !defined(__x86_64__) || defined(_WIN32) || defined(__ILP32__)
-#error "tkcore: the archive's code is for x86-64 with the calling convention of System V"
+/* An archive contains code for x86-64 in the calling convention of System V, or for AArch64 in that
+ * of AAPCS64, little-endian. Both have 64-bit pointers. */
+#if defined(__x86_64__) && !defined(_WIN32) && !defined(__ILP32__)
+#elif defined(__aarch64__) && !defined(__AARCH64EB__) && !defined(_WIN32) && !defined(__ILP32__)
+#else
+#error "tkcore: an archive's code is for x86-64 (System V) or little-endian AArch64 (AAPCS64)"
 #endif
 
 #if defined(__GNUC__)
@@ -142,7 +147,7 @@ extern "C" {
 
 /* The version of this header: major, minor, patch. tkc_version() returns the archive's version. */
 #define TKC_VERSION_MAJOR 0
-#define TKC_VERSION_MINOR 2
+#define TKC_VERSION_MINOR 3
 #define TKC_VERSION_PATCH 0
 #define TKC_VERSION ((TKC_VERSION_MAJOR << 16) | (TKC_VERSION_MINOR << 8) | TKC_VERSION_PATCH)
 
@@ -291,6 +296,25 @@ struct tkc_clock {
  * include/linux/timekeeper_internal.h, struct vdso_data). */
 struct tkc_snapshot {
 	uint64_t tkc_private[11];
+};
+
+/* The numbers by which a program computes a clock without a call (struct vdso_timestamp in
+ * include/vdso/datapage.h). At a reading, let `cycles` be (reading - last) & mask. If it is below
+ * `span`, the clock is at sec * 10^9 + ((frac + cycles * mult) >> shift) ns, and the product and the
+ * sum fit in 64 bits. tkc_line_get and tkc_line_ns compute it. */
+struct tkc_line {
+	/* The reading of the last command, and the greatest reading, 2^bits - 1. */
+	uint64_t last;
+	uint64_t mask;
+	/* The number of cycles, from 0, for which the line is the clock: 0 if the clock is at its
+	 * limit, and at most half of the readings. */
+	uint64_t span;
+	/* The clock at `last`: whole seconds, and the part below a second in 2^-shift ns. */
+	uint64_t sec;
+	uint64_t frac;
+	/* What a cycle adds, in 2^-shift ns: 0 for a coarse clock, and while the clocks are asleep. */
+	uint32_t mult;
+	uint32_t shift;
 };
 
 /* A clock's time: sec * 10^9 + nsec nanoseconds, where sec is not negative and nsec is 0 to
@@ -615,6 +639,15 @@ enum tkc_code tkc_snapshot_get(struct tkc_time *out, const struct tkc_snapshot *
 			       uint32_t clock, uint64_t reading);
 
 /*
+ * Stores the numbers by which a program computes a clock without a call, up to the next accepted
+ * command (update_vsyscall). As far as the line's span reaches, its value is the one that
+ * tkc_snapshot_get stores, to the nanosecond. Returns TKC_BAD_CLOCK.
+ */
+TKC_MUST_CHECK
+enum tkc_code tkc_snapshot_line(struct tkc_line *out, const struct tkc_snapshot *snapshot,
+				uint32_t clock);
+
+/*
  * Finds the first reading at which a clock has reached a time, sec s plus nsec ns: the first at
  * which tkc_snapshot_get stores this time or a later one. Use it to set a timer
  * (clockevents_program_event in kernel/time/clockevents.c converts the remaining time instead). sec
@@ -734,7 +767,9 @@ enum tkc_code tkc_clock_load(struct tkc_clock *out, const uint64_t words[TKC_SAV
  * reading: each second of REALTIME that has begun since the last call begins at its own reading,
  * with its leap second and its rate. So advancing often or seldom leaves the same clocks, apart from
  * the front, if no call is refused. At the reading of a call, MONOTONIC may be less than a snapshot
- * from before that call gives there.
+ * from before that call gives there. If others read the clocks meanwhile, call tkc_ntp_advance_late
+ * before each of these calls, at the same reading: then no second is due any more, and MONOTONIC
+ * doesn't go back.
  * Readers in other threads should get a new snapshot for each second: set a timer to
  * tkc_ntp_next_second.
  *
@@ -770,7 +805,8 @@ enum tkc_code tkc_ntp_open_at(struct tkc_ntp *out, const struct tkc_counter *cou
 
 /*
  * Begins each second of REALTIME up to the reading (second_overflow in kernel/time/ntp.c), and adds
- * 1 to the front.
+ * 1 to the front. Use tkc_ntp_advance_late if others may have read the clocks between the beginning
+ * of such a second and this call.
  *
  * Returns, in this order, and changes nothing then:
  *   TKC_FULL     the front is 2^63 - 1 or more
@@ -783,6 +819,23 @@ enum tkc_code tkc_ntp_open_at(struct tkc_ntp *out, const struct tkc_counter *cou
  */
 TKC_MUST_CHECK
 enum tkc_code tkc_ntp_advance(struct tkc_ntp *ntp, uint64_t reading);
+
+/*
+ * Begins each second of REALTIME up to the reading, and adds 1 to the front, as tkc_ntp_advance
+ * does, but issues all commands to the clocks at the reading (as timekeeping_advance does at a
+ * tick). It is for clocks that others read meanwhile: at the reading, the snapshots from before and
+ * after the call give the same MONOTONIC. So it doesn't go back for readers that use the former
+ * snapshot only up to the reading. A leap moves REALTIME at the reading.
+ *
+ * For the discipline the second still begins at its own reading. Later seconds make up for what the
+ * former rate added too much or too little since then. If several seconds are due, the first lasts
+ * up to the reading, and the others begin there. The phases of those between the first and the last
+ * are lost, as in the kernel.
+ *
+ * Returns the codes of tkc_ntp_advance, in the same order, and changes nothing then.
+ */
+TKC_MUST_CHECK
+enum tkc_code tkc_ntp_advance_late(struct tkc_ntp *ntp, uint64_t reading);
 
 /*
  * Advances to the reading, applies a command of tkc_clock_apply to the steered clocks, and adds 1
@@ -909,6 +962,38 @@ TKC_INLINE const char *tkc_code_name(uint32_t code)
 	case TKC_BAD_RATE: return "TKC_BAD_RATE";
 	default: return "TKC_?";
 	}
+}
+
+/* Stores a clock's time at a reading, as a number of nanoseconds, and returns 1, if the line reaches
+ * that far. Otherwise it stores nothing and returns 0: tkc_snapshot_get has the answer then. */
+TKC_INLINE int tkc_line_ns(uint64_t *out, const struct tkc_line *line, uint64_t reading)
+{
+	uint64_t cycles = (reading - line->last) & line->mask;
+
+	if (cycles >= line->span || reading > line->mask)
+		return 0;
+	*out = line->sec * 1000000000u + ((line->frac + cycles * line->mult) >> line->shift);
+	return 1;
+}
+
+/* Stores a clock's time at a reading as tkc_snapshot_get does, and returns 1, if the line reaches
+ * that far. Otherwise it stores nothing and returns 0 (do_hres in lib/vdso/gettimeofday.c). */
+TKC_INLINE int tkc_line_get(struct tkc_time *out, const struct tkc_line *line, uint64_t reading)
+{
+	uint64_t cycles = (reading - line->last) & line->mask;
+	uint64_t sec = line->sec, nsec;
+
+	if (cycles >= line->span || reading > line->mask)
+		return 0;
+	nsec = (line->frac + cycles * line->mult) >> line->shift;
+	if (nsec >= 1000000000u) {
+		sec += nsec / 1000000000u;
+		nsec %= 1000000000u;
+	}
+	out->sec = (int64_t)sec;
+	out->nsec = (uint32_t)nsec;
+	out->padding = 0;
+	return 1;
 }
 
 /* A function for each command, with only the arguments that the command uses. Each of them calls

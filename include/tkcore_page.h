@@ -16,18 +16,34 @@
  *
  * Which one
  *   - A page: MONOTONIC never goes back for any reader, if the clocks get a command at least once
- *     in each half of the counter's range (tkcore.h, "Limits"). It may go back over snapshots of a
- *     tkc_ntp, whose commands may be earlier than their publication. For this the writer reads the
+ *     in each half of the counter's range (tkcore.h, "Limits"). For this the writer reads the
  *     counter after tkc_page_begin, and tkc_page_now reads it before the reader's second load of
- *     the sequence. A reader waits while a writer is inside, that is between tkc_page_begin and
- *     tkc_page_publish. So a handler that may interrupt the writer must not wait: it may call
- *     tkc_page_try_now, which returns TKC_BUSY.
+ *     the sequence. Over snapshots of a tkc_ntp it may go back, unless the writer first calls
+ *     tkc_ntp_advance_late: the commands of other calls may be earlier than their reading. A reader
+ *     waits while a writer is inside, that is between tkc_page_begin and tkc_page_publish. So a
+ *     handler that may interrupt the writer must not wait: it may call tkc_page_try_now, which
+ *     returns TKC_BUSY.
  *   - A latch: a reader never waits for a writer that it interrupted, so an NMI or a signal handler
  *     may read it. MONOTONIC may go back by the change of the rate times the time since the
  *     writer's reading (as in ktime_get_mono_fast_ns in kernel/time/timekeeping.c).
  *   A writer that has both publishes on the page first.
  *   If readers run on other processors, give the page and the latch their own cache lines, by
  *   alignas(64), or _Alignas(64) in C before C23. Put no other data into their last line.
+ *
+ * Readers that keep a line
+ *   tkc_page_now and tkc_latch_now load, validate and convert the words at each read. A
+ *   tkc_page_reader or a tkc_latch_reader keeps the line of one clock (tkc_snapshot_line), and loads
+ *   the words only if the sequence has changed since it made this line. So most reads load the
+ *   sequence twice, read the counter and multiply once, as the kernel's vDSO does:
+ *
+ *     code = tkc_page_reader_init(&reader, &page, TKC_CLOCK_MONOTONIC);       for each thread
+ *     code = tkc_page_reader_get(&reader, read_counter, NULL, &time);
+ *
+ *   - Each answer and each code is the one of tkc_page_now or tkc_latch_now at the same reading.
+ *   - A read writes into its reader. So each thread needs its own one, and so does each handler
+ *     that may interrupt a read.
+ *   - A sequence at rest selects one publication for good, unless 2^63 publications come between
+ *     two reads. If tkc_page_init or tkc_latch_init makes the memory anew, make its readers anew.
  *
  * If the writer dies
  *   A writer may die at any instruction. Readers then see what its last store left:
@@ -72,9 +88,10 @@
  *   - Loads, stores and fences have a weaker order. In the crates all are sequentially consistent.
  *   - A latch stores all words. tk_latch stores only the words that changed.
  *   - No writer of the crates dies. The section above is only tested.
- *   Each read passes the words to tkc_counter_new and tkc_snapshot_from_words, which validate them.
- *   So neither a fault in this header nor another process that overwrites the memory can produce an
- *   invalid snapshot.
+ *   - No reader of the crates keeps words or a line from one read to the next.
+ *   Each read passes the words that it loads to tkc_counter_new and tkc_snapshot_from_words, which
+ *   validate them. So neither a fault in this header nor another process that overwrites the memory
+ *   can produce an invalid snapshot.
  *
  * The counter
  *   read_counter(context) returns a reading. The function must read the counter after the loads
@@ -83,6 +100,9 @@
  *   - x86-64: "lfence; rdtsc; lfence" or "rdtscp; lfence", if the TSC is constant and the same on
  *     all processors. The last lfence keeps the second load of the sequence from running before
  *     the reading.
+ *   - AArch64: tkc_cntvct_for_reader and tkc_cntvct_for_writer below read CNTVCT_EL0. A fence of
+ *     C11 orders no store before a read of this register, so a writer, after tkc_page_begin, needs
+ *     the second one.
  *   - A device: a load that the device orders with memory.
  *
  * Another counter
@@ -106,7 +126,8 @@
  *     the clocks are asleep, or while the writer is inside.
  *   - Otherwise a reader reads both counters in one call of read_counter, and keeps both readings
  *     in its context. tkc_page_look or tkc_latch_look gives the snapshot, and tkc_snapshot_get
- *     takes the reading of its counter. The numbers of the two counters must differ, or the reader
+ *     takes the reading of its counter. A tkc_page_reader gives both by tkc_page_reader_look, and
+ *     tkc_kept_get takes the reading. The numbers of the two counters must differ, or the reader
  *     can't decide which counter the snapshot is of.
  *   MONOTONIC doesn't go back over a change for readers of a page. tests/c/page_changes.c is an
  *   example.
@@ -123,12 +144,14 @@
 #ifdef __cplusplus
 #include <atomic>
 typedef std::atomic<uint64_t> tkc_word;
+#define TKC_ZEROS {}
 #define TKC_LOAD(word, order) (word)->load(std::memory_order_##order)
 #define TKC_STORE(word, value, order) (word)->store((value), std::memory_order_##order)
 #define TKC_FENCE(order) std::atomic_thread_fence(std::memory_order_##order)
 #else
 #include <stdatomic.h>
 typedef _Atomic uint64_t tkc_word;
+#define TKC_ZEROS { 0 }
 #define TKC_LOAD(word, order) atomic_load_explicit((word), memory_order_##order)
 #define TKC_STORE(word, value, order) atomic_store_explicit((word), (value), memory_order_##order)
 #define TKC_FENCE(order) atomic_thread_fence(memory_order_##order)
@@ -137,14 +160,49 @@ typedef _Atomic uint64_t tkc_word;
 /* With -fsanitize=thread, which doesn't follow fences, gcc warns of each one (-Wtsan). */
 #if defined(__SANITIZE_THREAD__) && defined(__GNUC__) && !defined(__clang__)
 #undef TKC_FENCE
+#ifdef __x86_64__
 #define TKC_FENCE(order) __asm__ __volatile__("mfence" ::: "memory")
+#else
+#define TKC_FENCE(order) __asm__ __volatile__("dmb ish" ::: "memory")
+#endif
+#endif
+
+/* A function that most reads don't call stays out of the code that calls it. */
+#ifdef __GNUC__
+#define TKC_SELDOM static __attribute__((noinline, cold, unused))
+#else
+#define TKC_SELDOM static inline
 #endif
 
 /* Lets the other thread of a core run while a reader waits. */
-#ifdef __GNUC__
+#if defined(__GNUC__) && defined(__x86_64__)
 #define TKC_PAUSE() __builtin_ia32_pause()
+#elif defined(__GNUC__) && defined(__aarch64__)
+#define TKC_PAUSE() __asm__ __volatile__("isb" ::: "memory")
 #else
 #define TKC_PAUSE() ((void)0)
+#endif
+
+#if defined(__GNUC__) && defined(__aarch64__)
+/* Reads the virtual counter after all loads before the call, and before all loads after it. */
+static inline uint64_t tkc_cntvct_for_reader(void *context)
+{
+	uint64_t reading;
+
+	(void)context;
+	__asm__ __volatile__("dsb ishld; isb; mrs %0, cntvct_el0; isb" : "=r"(reading)::"memory");
+	return reading;
+}
+
+/* Reads the virtual counter also after all processors can see the stores before the call. */
+static inline uint64_t tkc_cntvct_for_writer(void *context)
+{
+	uint64_t reading;
+
+	(void)context;
+	__asm__ __volatile__("dsb ish; isb; mrs %0, cntvct_el0; isb" : "=r"(reading)::"memory");
+	return reading;
+}
 #endif
 
 /* The layouts of this header: the bytes of "tkcpage" or "tkclatc", and a number that rises when the
@@ -176,7 +234,8 @@ typedef _Atomic uint64_t tkc_word;
  *           3. writes the words of the other copy.
  *           4. makes the sequence even, which selects that copy.
  *   Reader: 5. loads the sequence for the first time. Starts again if it is odd.
- *           6. loads the words of the copy that the sequence selects, and reads the counter.
+ *           6. loads the words of the copy that the sequence selects, and reads the counter. A
+ *              reader that keeps the line of this sequence only reads the counter.
  *           7. loads the sequence again. Starts again if it has changed.
  * It is 256 bytes, aligned to 8 bytes.
  */
@@ -193,7 +252,8 @@ struct tkc_page {
  *           3. makes the sequence even: readers take copy 0.
  *           4. writes copy 1.
  *   Reader: 5. loads the sequence for the first time.
- *           6. loads the words of the copy that the sequence selects, and reads the counter.
+ *           6. loads the words of the copy that the sequence selects, and reads the counter. A
+ *              reader that keeps the line of this sequence, which is even, only reads the counter.
  *           7. loads the sequence again. Starts again if it has changed.
  * It is 224 bytes, aligned to 8 bytes.
  */
@@ -201,6 +261,30 @@ struct tkc_latch {
 	tkc_word layout; /* TKC_LATCH_LAYOUT */
 	tkc_word sequence;
 	tkc_word copies[2][TKC_LATCH_WORDS];
+};
+
+/*
+ * A clock that a reader keeps. The sequence is the one that selected the snapshot's words, or odd if
+ * there are none. Once a read has returned TKC_OK, the line and the snapshot are those of its
+ * publication.
+ */
+struct tkc_kept {
+	uint64_t sequence;
+	struct tkc_line line;
+	struct tkc_snapshot snapshot;
+	uint32_t clock; /* enum tkc_clock_id */
+	uint32_t padding;
+};
+
+/* A reader of a page, and one of a latch. Both are plain memory that only one thread uses. */
+struct tkc_page_reader {
+	const struct tkc_page *page;
+	struct tkc_kept kept;
+};
+
+struct tkc_latch_reader {
+	const struct tkc_latch *latch;
+	struct tkc_kept kept;
 };
 
 /* Returns a counter's reading (see "The counter" above). */
@@ -394,8 +478,17 @@ static inline void tkc_page_recover(struct tkc_page *page, const struct tkc_cloc
 	tkc_page_publish_clock(page, clock);
 }
 
-/* Does the reader's steps once, for the words of a snapshot and the numbers of its counter. Returns
- * 0 if a writer was inside. */
+/* Does the reader's steps 6 and 7, for the words of a snapshot and the numbers of its counter. */
+static inline int tkc_page_try_at(const struct tkc_page *page, uint64_t sequence,
+				  tkc_read_counter *read_counter, void *context, uint64_t *words,
+				  uint64_t *reading)
+{
+	tkc_words_load(page->copies[sequence / 2 % 2], words, TKC_LATCH_WORDS);
+	*reading = read_counter(context);
+	return !tkc_page_moved(&page->sequence, sequence);
+}
+
+/* Does the reader's steps once. Returns 0 if a writer was inside. */
 static inline int tkc_page_try(const struct tkc_page *page, tkc_read_counter *read_counter,
 			       void *context, uint64_t *words, uint64_t *reading)
 {
@@ -405,9 +498,7 @@ static inline int tkc_page_try(const struct tkc_page *page, tkc_read_counter *re
 		TKC_PAUSE();
 		return 0;
 	}
-	tkc_words_load(page->copies[sequence / 2 % 2], words, TKC_LATCH_WORDS);
-	*reading = read_counter(context);
-	return !tkc_page_moved(&page->sequence, sequence);
+	return tkc_page_try_at(page, sequence, read_counter, context, words, reading);
 }
 
 /* For a read without a reading. */
@@ -484,6 +575,162 @@ static inline uint32_t tkc_page_try_now(const struct tkc_page *page, uint32_t tr
 	return TKC_BUSY;
 }
 
+/* Returns a clock that isn't kept yet. */
+static inline struct tkc_kept tkc_kept_none(uint32_t clock)
+{
+	struct tkc_kept none = TKC_ZEROS;
+
+	none.sequence = 1;
+	none.clock = clock;
+	return none;
+}
+
+/* Keeps a clock of the words that a sequence selected. Returns the codes of tkc_page_read, and then
+ * TKC_BAD_CLOCK. It keeps none if it fails, so the next read loads the words again. */
+static inline enum tkc_code tkc_kept_make(struct tkc_kept *kept, uint64_t sequence,
+					  const uint64_t *words)
+{
+	enum tkc_code code;
+
+	kept->sequence = 1;
+	code = tkc_words_checked(&kept->snapshot, words);
+	if (code == TKC_OK)
+		code = tkc_snapshot_line(&kept->line, &kept->snapshot, kept->clock);
+	if (code == TKC_OK)
+		kept->sequence = sequence;
+	return code;
+}
+
+/* Stores the kept clock's time at a reading. Returns the codes of tkc_snapshot_get. */
+static inline enum tkc_code tkc_kept_get(const struct tkc_kept *kept, uint64_t reading,
+					 struct tkc_time *out)
+{
+	if (tkc_line_get(out, &kept->line, reading))
+		return TKC_OK;
+	return tkc_snapshot_get(out, &kept->snapshot, kept->clock, reading);
+}
+
+/* Does the same with a number of nanoseconds. */
+static inline enum tkc_code tkc_kept_ns(const struct tkc_kept *kept, uint64_t reading,
+					uint64_t *out)
+{
+	struct tkc_time time;
+	enum tkc_code code;
+
+	if (tkc_line_ns(out, &kept->line, reading))
+		return TKC_OK;
+	code = tkc_snapshot_get(&time, &kept->snapshot, kept->clock, reading);
+	if (code == TKC_OK)
+		*out = (uint64_t)time.sec * 1000000000 + time.nsec;
+	return code;
+}
+
+/* Makes a reader of a page for one clock, which keeps no line yet. Returns TKC_BAD_LAYOUT as
+ * tkc_page_attach does, and writes nothing then. If no clock has the number, each read returns
+ * TKC_BAD_CLOCK. */
+static inline uint32_t tkc_page_reader_init(struct tkc_page_reader *reader,
+					    const struct tkc_page *page, uint32_t clock)
+{
+	if (tkc_page_attach(page) != TKC_OK)
+		return TKC_BAD_LAYOUT;
+	reader->page = page;
+	reader->kept = tkc_kept_none(clock);
+	return TKC_OK;
+}
+
+/* Does the steps 6 and 7 of a reader that keeps no line of this sequence, and makes it. */
+TKC_SELDOM uint32_t tkc_page_reader_renew(struct tkc_page_reader *reader, uint64_t sequence,
+					  tkc_read_counter *read_counter, void *context,
+					  uint64_t *reading)
+{
+	uint64_t words[TKC_LATCH_WORDS];
+
+	if (!tkc_page_try_at(reader->page, sequence, read_counter, context, words, reading))
+		return TKC_BUSY;
+	return tkc_kept_make(&reader->kept, sequence, words);
+}
+
+/* Does the reader's steps once. Returns TKC_BUSY if a writer was inside, and otherwise the codes of
+ * tkc_kept_make. `renewed` lets the compiler keep *reading in a register. */
+static inline uint32_t tkc_page_reader_try(struct tkc_page_reader *reader,
+					   tkc_read_counter *read_counter, void *context,
+					   uint64_t *reading)
+{
+	const tkc_word *place = &reader->page->sequence;
+	uint64_t sequence = TKC_LOAD(place, acquire), renewed;
+	uint32_t code;
+
+	if (sequence % 2) {
+		TKC_PAUSE();
+		return TKC_BUSY;
+	}
+	if (sequence != reader->kept.sequence) {
+		code = tkc_page_reader_renew(reader, sequence, read_counter, context, &renewed);
+		*reading = renewed;
+		return code;
+	}
+	*reading = read_counter(context);
+	return tkc_page_moved(place, sequence) ? TKC_BUSY : (uint32_t)TKC_OK;
+}
+
+/*
+ * Reads the counter while the kept snapshot is the latest, as tkc_page_look does. Then
+ * reader->kept.snapshot is that snapshot, from which other clocks can be read at this reading, and
+ * tkc_kept_get reads the kept clock. The call writes *reading even if it fails. Returns the codes of
+ * tkc_page_read, and then TKC_BAD_CLOCK.
+ */
+static inline enum tkc_code tkc_page_reader_look(struct tkc_page_reader *reader,
+						 tkc_read_counter *read_counter, void *context,
+						 uint64_t *reading)
+{
+	uint32_t code;
+
+	do
+		code = tkc_page_reader_try(reader, read_counter, context, reading);
+	while (code == TKC_BUSY);
+	return (enum tkc_code)code;
+}
+
+/* Reads the clock now. Stores and returns what tkc_page_now does. */
+static inline enum tkc_code tkc_page_reader_get(struct tkc_page_reader *reader,
+						tkc_read_counter *read_counter, void *context,
+						struct tkc_time *out)
+{
+	uint64_t reading;
+	enum tkc_code code = tkc_page_reader_look(reader, read_counter, context, &reading);
+
+	return code != TKC_OK ? code : tkc_kept_get(&reader->kept, reading, out);
+}
+
+/* Does the same with a number of nanoseconds. */
+static inline enum tkc_code tkc_page_reader_ns(struct tkc_page_reader *reader,
+					       tkc_read_counter *read_counter, void *context,
+					       uint64_t *out)
+{
+	uint64_t reading;
+	enum tkc_code code = tkc_page_reader_look(reader, read_counter, context, &reading);
+
+	return code != TKC_OK ? code : tkc_kept_ns(&reader->kept, reading, out);
+}
+
+/* Reads the clock now, in at most `tries` tries. Stores and returns what tkc_page_try_now does. */
+static inline uint32_t tkc_page_reader_try_get(struct tkc_page_reader *reader, uint32_t tries,
+					       tkc_read_counter *read_counter, void *context,
+					       struct tkc_time *out)
+{
+	uint64_t reading;
+	uint32_t code;
+
+	for (; tries; tries--) {
+		code = tkc_page_reader_try(reader, read_counter, context, &reading);
+		if (code == TKC_OK)
+			return tkc_kept_get(&reader->kept, reading, out);
+		if (code != TKC_BUSY)
+			return code;
+	}
+	return TKC_BUSY;
+}
+
 /* Makes a latch with its first snapshot, as tkc_page_init makes a page. */
 static inline void tkc_latch_init(struct tkc_latch *latch, const struct tkc_snapshot *snapshot)
 {
@@ -544,15 +791,23 @@ static inline void tkc_latch_recover(struct tkc_latch *latch, const struct tkc_c
 	tkc_latch_publish(latch, &snapshot);
 }
 
+/* Does the reader's steps 6 and 7. */
+static inline int tkc_latch_try_at(const struct tkc_latch *latch, uint64_t sequence,
+				   tkc_read_counter *read_counter, void *context, uint64_t *words,
+				   uint64_t *reading)
+{
+	tkc_words_load(latch->copies[sequence & 1], words, TKC_LATCH_WORDS);
+	*reading = read_counter(context);
+	return !tkc_page_moved(&latch->sequence, sequence);
+}
+
 /* Does the reader's steps once. Returns 0 if the sequence has changed. */
 static inline int tkc_latch_try(const struct tkc_latch *latch, tkc_read_counter *read_counter,
 				void *context, uint64_t *words, uint64_t *reading)
 {
 	uint64_t sequence = TKC_LOAD(&latch->sequence, acquire);
 
-	tkc_words_load(latch->copies[sequence & 1], words, TKC_LATCH_WORDS);
-	*reading = read_counter(context);
-	return !tkc_page_moved(&latch->sequence, sequence);
+	return tkc_latch_try_at(latch, sequence, read_counter, context, words, reading);
 }
 
 /* Reads the latest whole snapshot. Returns the codes of tkc_page_read. */
@@ -590,9 +845,89 @@ static inline enum tkc_code tkc_latch_now(const struct tkc_latch *latch, uint32_
 	return code != TKC_OK ? code : tkc_snapshot_get(out, &snapshot, clock, reading);
 }
 
+/* Makes a reader of a latch for one clock, as tkc_page_reader_init does for a page. */
+static inline uint32_t tkc_latch_reader_init(struct tkc_latch_reader *reader,
+					     const struct tkc_latch *latch, uint32_t clock)
+{
+	if (tkc_latch_attach(latch) != TKC_OK)
+		return TKC_BAD_LAYOUT;
+	reader->latch = latch;
+	reader->kept = tkc_kept_none(clock);
+	return TKC_OK;
+}
+
+/* Does the steps 6 and 7 of a reader that keeps no line of this sequence, and makes it. */
+TKC_SELDOM uint32_t tkc_latch_reader_renew(struct tkc_latch_reader *reader, uint64_t sequence,
+					   tkc_read_counter *read_counter, void *context,
+					   uint64_t *reading)
+{
+	uint64_t words[TKC_LATCH_WORDS];
+
+	if (!tkc_latch_try_at(reader->latch, sequence, read_counter, context, words, reading))
+		return TKC_BUSY;
+	return tkc_kept_make(&reader->kept, sequence, words);
+}
+
+/* Does the reader's steps once. Returns TKC_BUSY if the sequence has changed, and otherwise the
+ * codes of tkc_kept_make. While the sequence is odd, the former snapshot is made anew each time. */
+static inline uint32_t tkc_latch_reader_try(struct tkc_latch_reader *reader,
+					    tkc_read_counter *read_counter, void *context,
+					    uint64_t *reading)
+{
+	const tkc_word *place = &reader->latch->sequence;
+	uint64_t sequence = TKC_LOAD(place, acquire), renewed;
+	uint32_t code;
+
+	if (sequence % 2 || sequence != reader->kept.sequence) {
+		code = tkc_latch_reader_renew(reader, sequence, read_counter, context, &renewed);
+		*reading = renewed;
+		return code;
+	}
+	*reading = read_counter(context);
+	return tkc_page_moved(place, sequence) ? TKC_BUSY : (uint32_t)TKC_OK;
+}
+
+/* Reads the counter while the kept snapshot is the latest whole one, as tkc_page_reader_look does
+ * on a page. */
+static inline enum tkc_code tkc_latch_reader_look(struct tkc_latch_reader *reader,
+						  tkc_read_counter *read_counter, void *context,
+						  uint64_t *reading)
+{
+	uint32_t code;
+
+	do
+		code = tkc_latch_reader_try(reader, read_counter, context, reading);
+	while (code == TKC_BUSY);
+	return (enum tkc_code)code;
+}
+
+/* Reads the clock now. Stores and returns what tkc_latch_now does. */
+static inline enum tkc_code tkc_latch_reader_get(struct tkc_latch_reader *reader,
+						 tkc_read_counter *read_counter, void *context,
+						 struct tkc_time *out)
+{
+	uint64_t reading;
+	enum tkc_code code = tkc_latch_reader_look(reader, read_counter, context, &reading);
+
+	return code != TKC_OK ? code : tkc_kept_get(&reader->kept, reading, out);
+}
+
+/* Does the same with a number of nanoseconds. */
+static inline enum tkc_code tkc_latch_reader_ns(struct tkc_latch_reader *reader,
+						tkc_read_counter *read_counter, void *context,
+						uint64_t *out)
+{
+	uint64_t reading;
+	enum tkc_code code = tkc_latch_reader_look(reader, read_counter, context, &reading);
+
+	return code != TKC_OK ? code : tkc_kept_ns(&reader->kept, reading, out);
+}
+
 #undef TKC_LOAD
 #undef TKC_STORE
 #undef TKC_FENCE
 #undef TKC_PAUSE
+#undef TKC_SELDOM
+#undef TKC_ZEROS
 
 #endif /* TKCORE_PAGE_H */

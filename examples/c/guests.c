@@ -1,8 +1,9 @@
 /* SPDX-License-Identifier: MIT OR Apache-2.0 */
 /* For a hypervisor: exports a snapshot to a guest's clocks. MONOTONIC becomes pvclock_vcpu_time_info
  * (arch/x86/include/asm/pvclock-abi.h), and TAI vmclock_abi (include/uapi/linux/vmclock-abi.h).
- * Both describe a line over a counter of 64 bits, such as the TSC. It compares a million times that
- * a guest computes with the library's, and prints the least and the greatest difference. */
+ * Both describe a line over a counter of 64 bits, such as the TSC, and are made from a tkc_line. It
+ * compares a million times that a guest computes with the library's, and prints the least and the
+ * greatest difference. */
 #include <stdio.h>
 #include <tkcore.h>
 
@@ -27,31 +28,15 @@ struct vmclock {
 	uint64_t time_frac_sec; /* 2^-64 s */
 };
 
-/* A snapshot's words, and the shift of its counter. */
-struct words {
-	uint64_t word[TKC_WORDS];
-	uint32_t shift;
-};
-
-static struct words words_of(const struct tkc_snapshot *snapshot, const struct tkc_counter *counter)
-{
-	struct words made;
-	uint32_t bits, mult;
-
-	tkc_snapshot_words(made.word, snapshot);
-	tkc_counter_numbers(&bits, &mult, &made.shift, counter);
-	return made;
-}
-
 /* MONOTONIC. The guest computes system_time + ((delta << tsc_shift) * mul >> 32). The part of
  * MONOTONIC below a nanosecond has no field. */
-static struct pvclock pvclock_of(const struct words *from)
+static struct pvclock pvclock_of(const struct tkc_line *line)
 {
 	struct pvclock made = {
-		.tsc_timestamp = from->word[1],
-		.system_time = from->word[4] * NSEC + (from->word[3] >> from->shift),
-		.tsc_to_system_mul = (uint32_t)from->word[2],
-		.tsc_shift = (int8_t)(32 - from->shift),
+		.tsc_timestamp = line->last,
+		.system_time = line->sec * NSEC + (line->frac >> line->shift),
+		.tsc_to_system_mul = line->mult,
+		.tsc_shift = (int8_t)(32 - line->shift),
 	};
 
 	/* as few bits of delta as possible are shifted out at its top */
@@ -69,23 +54,21 @@ static uint64_t pvclock_read(const struct pvclock *clock, uint64_t tsc)
 	return clock->system_time + (uint64_t)((u128)delta * clock->tsc_to_system_mul >> 32);
 }
 
-/* TAI. Word 5 is REALTIME minus MONOTONIC in ns, and word 7 twice the TAI offset in s. */
-static struct vmclock vmclock_of(const struct words *from)
+/* TAI. A line's frac and mult are in 2^-shift ns, and the guest's fields in 2^-64 s and less. */
+static struct vmclock vmclock_of(const struct tkc_line *line)
 {
-	uint64_t second = NSEC << from->shift; /* in 2^-shift ns */
-	u128 frac = (u128)(from->word[5] % NSEC << from->shift) + from->word[3];
+	uint64_t second = NSEC << line->shift; /* in 2^-shift ns */
 	struct vmclock made = {
-		.counter_value = from->word[1],
-		.time_sec = from->word[4] + from->word[5] / NSEC + (from->word[7] >> 1) +
-			    (uint64_t)(frac / second),
-		.time_frac_sec = (uint64_t)((frac % second << 64) / second),
+		.counter_value = line->last,
+		.time_sec = line->sec,
+		.time_frac_sec = (uint64_t)(((u128)line->frac << 64) / second),
 	};
-	u128 period = ((u128)from->word[2] << 64) / second;
+	u128 period = ((u128)line->mult << 64) / second;
 
 	/* as many bits of the period as 64 bits take */
 	while (period < (u128)1 << 63 && made.counter_period_shift < 31) {
 		made.counter_period_shift++;
-		period = ((u128)from->word[2] << (64 + made.counter_period_shift)) / second;
+		period = ((u128)line->mult << (64 + made.counter_period_shift)) / second;
 	}
 	made.counter_period_frac_sec = (uint64_t)period;
 	return made;
@@ -119,6 +102,7 @@ int main(void)
 	struct tkc_counter counter;
 	struct tkc_clock clock;
 	struct tkc_snapshot snapshot;
+	struct tkc_line monotonic_line, tai_line;
 	struct range pv = { INT64_MAX, INT64_MIN }, vm = pv;
 	uint64_t random = 1, start = UINT64_C(5000000000);
 
@@ -130,17 +114,19 @@ int main(void)
 	    tkc_clock_update(&clock, start + UINT64_C(750000000123)))
 		return 1;
 	tkc_clock_snapshot(&snapshot, &clock);
+	if (tkc_snapshot_line(&monotonic_line, &snapshot, TKC_CLOCK_MONOTONIC) ||
+	    tkc_snapshot_line(&tai_line, &snapshot, TKC_CLOCK_TAI))
+		return 1;
 
-	struct words words = words_of(&snapshot, &counter);
-	struct pvclock pvclock = pvclock_of(&words);
-	struct vmclock vmclock = vmclock_of(&words);
+	struct pvclock pvclock = pvclock_of(&monotonic_line);
+	struct vmclock vmclock = vmclock_of(&tai_line);
 
 	for (int k = 0; k < READINGS; k++) {
 		struct tkc_time monotonic, tai;
 
 		/* readings up to 7 minutes after the snapshot */
 		random = random * UINT64_C(6364136223846793005) + UINT64_C(1442695040888963407);
-		uint64_t reading = words.word[1] + (random >> 24);
+		uint64_t reading = monotonic_line.last + (random >> 24);
 
 		if (tkc_snapshot_get(&monotonic, &snapshot, TKC_CLOCK_MONOTONIC, reading) ||
 		    tkc_snapshot_get(&tai, &snapshot, TKC_CLOCK_TAI, reading))

@@ -5,10 +5,13 @@
  * a lock, as the kernel's readers do under tk_core.seq
  * (kernel/time/timekeeping.c, Documentation/locking/seqlock.rst).
  *
- * The writer reads the counter after tkc_page_begin, and tkc_page_now reads it
+ * The writer reads the counter after tkc_page_begin, and a reader reads it
  * before its second load of the sequence. So a reader never combines a snapshot
  * with a reading later than the next command's reading, and it never sees
  * MONOTONIC go back.
+ *
+ * Each thread has its own tkc_page_reader, which keeps MONOTONIC's line until
+ * the next publication.
  *
  * The counter here is a word in memory. tests/c/page_tsc.c does this with
  * the TSC.
@@ -39,6 +42,7 @@ struct machine {
 struct reader {
 	pthread_t thread;
 	struct machine *machine;
+	struct tkc_page_reader monotonic;
 	uint64_t front, nanoseconds;
 	const char *wrong;
 };
@@ -107,12 +111,10 @@ static const char *look(struct reader *reader)
 {
 	struct machine *machine = reader->machine;
 	uint64_t nanoseconds;
-	struct tkc_time time;
 
-	if (tkc_page_now(&machine->page, TKC_CLOCK_MONOTONIC, read_counter,
-			 &machine->cycles, &time))
+	if (tkc_page_reader_ns(&reader->monotonic, read_counter,
+			       &machine->cycles, &nanoseconds))
 		return "MONOTONIC has no time";
-	nanoseconds = (uint64_t)time.sec * 1000000000 + time.nsec;
 	if (nanoseconds < reader->nanoseconds)
 		return "MONOTONIC went back";
 	reader->nanoseconds = nanoseconds;
@@ -154,6 +156,9 @@ static int start_readers(struct reader readers[READERS],
 
 	while (started < READERS) {
 		readers[started] = (struct reader){ .machine = machine };
+		if (tkc_page_reader_init(&readers[started].monotonic,
+					 &machine->page, TKC_CLOCK_MONOTONIC))
+			break;
 		if (pthread_create(&readers[started].thread, NULL, read_all,
 				   &readers[started]))
 			break;

@@ -9,7 +9,7 @@
  */
 #define _POSIX_C_SOURCE 200809L
 
-#include "script.h"
+#include "script/script.h"
 
 #include <inttypes.h>
 #include <stdio.h>

@@ -99,8 +99,10 @@ static void take(enum context context, struct tkc_snapshot *snapshot,
 		clocks_look_fast(trial.read, snapshot, reading);
 	} else {
 		clocks_look(trial.read, snapshot, reading);
-		if (trial.reads_late)
+		if (trial.reads_late) {
+			udelay(100); /* so that a command often comes in between */
 			*reading = trial.read->read_counter();
+		}
 	}
 	if (trial.keeps_counter && trial.read != &trial.clocks)
 		*reading = trial.clocks.read_counter();

@@ -1,3 +1,3 @@
 // SPDX-License-Identifier: GPL-2.0
-/* Compiles the record reader of examples/c for the kernel. */
-#include "c/record.c"
+/* Compiles the record reader of run/script for the kernel. */
+#include "script/record.c"

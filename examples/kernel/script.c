@@ -1,3 +1,3 @@
 // SPDX-License-Identifier: GPL-2.0
-/* Compiles the script parser of examples/c for the kernel. */
-#include "c/script.c"
+/* Compiles the script parser of run/script for the kernel. */
+#include "script/script.c"

@@ -1,10 +1,9 @@
 /* SPDX-License-Identifier: MIT OR Apache-2.0 */
 /*
  * Unwinds the stack at each instruction of the library's calls by the tables in .eh_frame, as a
- * profiler does. It is linked to a program that makes the calls, and steps through each of them by
- * the processor's trap flag. The handler of SIGTRAP must find the caller, with its stack pointer
- * and its registers as they were at the call, and main above it. At the end it prints the number
- * of instructions that were stepped.
+ * profiler does. It is linked to a program that makes the calls, and steps through each of them. The
+ * handler of SIGTRAP must find the caller, with its stack pointer and its registers as they were at
+ * the call, and main above it. At the end it prints the number of instructions that were stepped.
  *
  *     gcc -Wl,--wrap=FUNCTION.. backtraces.c PROGRAM.c libtkcore.a
  */
@@ -21,20 +20,22 @@
 #include <unwind.h>
 
 enum {
-	TRAP_FLAG = 0x100,
-	KEPT = 6, /* registers that a function leaves as they were */
+	MOST_KEPT = 19,
+	MOST_FRAMES = 64,
 	PLACES = 1 << 16, /* for the addresses of instructions, a power of two */
 };
 
-/* The linker makes a call of a function one of its wrapper, which sets the trap flag: the first
- * trap is at the function's first instruction. */
-#define STEPPED(function)                                   \
-	__asm__(".globl __wrap_" #function "\n"             \
-		"__wrap_" #function ":\n"                   \
-		"	pushf\n"                            \
-		"	orl $0x100, (%rsp)\n"               \
-		"	popf\n"                             \
-		"	jmp __real_" #function "\n");
+/* The caller of the present call, if one is stepped: what an unwinder must find. */
+struct caller {
+	bool is_called;
+	uint64_t address, stack, kept[MOST_KEPT];
+};
+
+#ifdef __aarch64__
+#include "backtraces_aarch64.h"
+#else
+#include "backtraces_x86_64.h"
+#endif
 
 STEPPED(tkc_version)
 STEPPED(tkc_counter_new)
@@ -59,6 +60,7 @@ STEPPED(tkc_snapshot_front)
 STEPPED(tkc_snapshot_tai)
 STEPPED(tkc_snapshot_asleep)
 STEPPED(tkc_snapshot_get)
+STEPPED(tkc_snapshot_line)
 STEPPED(tkc_snapshot_reading)
 STEPPED(tkc_snapshot_convert)
 STEPPED(tkc_snapshot_words)
@@ -66,21 +68,13 @@ STEPPED(tkc_snapshot_from_words)
 
 int main(int argc, char **argv);
 
-/* rbx, rbp and r12 to r15, by their numbers in DWARF and in a signal's context. */
-static const int dwarf[KEPT] = { 3, 6, 12, 13, 14, 15 };
-static const int saved[KEPT] = { REG_RBX, REG_RBP, REG_R12, REG_R13, REG_R14, REG_R15 };
-
-/* The caller of the present call, if one is stepped: what an unwinder must find. */
-static struct {
-	uint64_t address, stack, kept[KEPT];
-} caller;
-static bool is_called;
-
+static struct caller caller;
 static uint64_t stepped, distinct, calls;
 static uint64_t places[PLACES]; /* the addresses of stepped instructions, by their hash */
 
 struct search {
 	bool found_caller, found_main;
+	int frames;
 };
 
 static bool is_caller(struct _Unwind_Context *frame)
@@ -98,6 +92,9 @@ static _Unwind_Reason_Code visit(struct _Unwind_Context *frame, void *context)
 	uint64_t address = _Unwind_GetIP(frame);
 	void *function;
 
+	/* (by wrong tables a frame may be its own caller) */
+	if (++search->frames > MOST_FRAMES)
+		return _URC_END_OF_STACK;
 	if (address == caller.address)
 		search->found_caller = is_caller(frame);
 	if (!search->found_caller)
@@ -118,31 +115,20 @@ static void count(uint64_t address)
 	stepped++;
 }
 
-static void begin_call(const greg_t *registers)
-{
-	const uint64_t *stack = (const uint64_t *)(uintptr_t)registers[REG_RSP];
-
-	caller.address = *stack;
-	caller.stack = (uint64_t)(uintptr_t)(stack + 1);
-	for (int i = 0; i < KEPT; i++)
-		caller.kept[i] = (uint64_t)registers[saved[i]];
-	is_called = true;
-	calls++;
-}
-
 static void step(int number, siginfo_t *info, void *context)
 {
-	greg_t *registers = ((ucontext_t *)context)->uc_mcontext.gregs;
-	uint64_t address = (uint64_t)registers[REG_RIP];
-	struct search search = { false, false };
+	uint64_t address = address_in(context);
+	struct search search = { false, false, 0 };
 
 	(void)number;
 	(void)info;
-	if (!is_called)
-		begin_call(registers);
-	if (address == caller.address && (uint64_t)registers[REG_RSP] == caller.stack) {
-		is_called = false;
-		registers[REG_EFL] &= ~TRAP_FLAG;
+	if (is_first(&caller)) {
+		begin_call(&caller, context);
+		caller.is_called = true;
+		calls++;
+	}
+	if (has_returned(&caller, context)) {
+		caller.is_called = false;
 		return;
 	}
 	count(address);
@@ -152,6 +138,7 @@ static void step(int number, siginfo_t *info, void *context)
 			search.found_caller ? "main" : "caller", address);
 		_exit(EXIT_FAILURE);
 	}
+	run_instruction(address);
 }
 
 static void print_counts(void)
@@ -168,5 +155,6 @@ __attribute__((constructor)) static void begin(void)
 	action.sa_sigaction = step;
 	action.sa_flags = SA_SIGINFO;
 	sigaction(SIGTRAP, &action, NULL);
+	prepare_steps();
 	atexit(print_counts);
 }

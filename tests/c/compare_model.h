@@ -18,4 +18,19 @@ struct numbers {
  * cycles. Returns whether the numbers describe a counter. */
 bool make_counter(struct tkc_counter *counter, struct numbers *numbers, bool has_rate);
 
+/* Compares the clocks with the model by their words. */
+void compare_words(const struct tkc_clock *clock, const struct model *model);
+
+/* Returns any reading, most often one after the last command. */
+uint64_t reading_near(const struct model *model);
+
+/* Applies a random command, and compares the result. */
+void try_command(struct tkc_clock *clock, struct model *model);
+
+/* Changes the counter to one of random numbers, which is stored if the change is accepted. */
+void try_change(struct tkc_clock *clock, struct model *model, struct tkc_counter *counter);
+
+/* Compares the line of a clock, if there is one of that number, with the model. */
+void compare_line(const struct tkc_snapshot *snapshot, const struct model *model, uint32_t clock);
+
 #endif

@@ -30,6 +30,7 @@ class Session:
 
     def __init__(self):
         self.steered = None
+        self.began_late = 0, 0          # the seconds that the last `late` began, and the seconds inserted by it
 
     def answer(self, record):
         word, *numbers = record.split(",")
@@ -37,7 +38,7 @@ class Session:
             line = getattr(self, word)(*map(int, numbers))
         except Refused as refused:
             return self.with_words(f"no,TKC_{str(refused).upper()}")
-        if word in ("advance", "apply", "adjtimex", "get"):
+        if word in ("advance", "late", "apply", "adjtimex", "get"):
             self.steered.front += 1
         return self.with_words(line)
 
@@ -65,6 +66,13 @@ class Session:
 
     def advance(self, reading):
         self.steered.advance(reading)
+        return "ok"
+
+    def late(self, reading):
+        following, tai = self.steered.next, self.steered.clock.tai
+        self.steered.advance_late(reading)
+        leap = self.steered.clock.tai - tai
+        self.began_late = self.steered.next - following + leap, leap
         return "ok"
 
     def apply(self, reading, command, number, nsec):
@@ -102,7 +110,10 @@ class Records:
             return self.following.pop(0)
         pick = self.random.randrange(100)
         if self.session.steered is None or pick < 2:
-            return self.opening()
+            if self.random.randrange(20):
+                return self.opening()
+            self.following = self.late_leap()
+            return self.following.pop(0)
         if pick < 8:
             reading = self.reading()
             self.following = [self.request(reading, fields)
@@ -113,7 +124,7 @@ class Records:
         if pick < 75:
             return f"get,{self.random.choice(list(CLOCKS))},{self.reading()}"
         if pick < 85:
-            return f"advance,{self.reading()}"
+            return f"{self.random.choice(['advance', 'late'])},{self.reading()}"
         return self.command() if pick < 97 else "next"
 
     def request(self, reading, fields):
@@ -134,6 +145,14 @@ class Records:
         uptime = [self.random.choice([0, 1, 3_600, sec, sec + 1, 946_079_900, 946_079_999, 946_080_000, -1]),
                   self.random.choice([0, 0, 999_999_999, 10**9, self.random.randrange(10**9)])]
         return ",".join(map(str, ["openat", *fields, *uptime]))
+
+    def late_leap(self):
+        """Clocks that open before midnight, and whose leap second begins late."""
+        status, tai = self.random.choice([ntp.STA_INS, ntp.STA_DEL]), self.random.randrange(100_001)
+        first, second = (self.random.randrange(10**9) for _ in range(2))
+        return [f"open,64,8388608,23,0,{DAY_END - 3},0,{self.random.choice([100, 250, 1000])}",
+                self.request(0, ntp_bounds.fields(ntp.STATUS | ntp.TAI, status=status, constant=tai)),
+                f"late,{10**9 + first}", f"late,{3 * 10**9 + second}"]
 
     def reading(self):
         """A reading some seconds after the last one; seldom one behind it or the account, or above the mask."""

@@ -134,6 +134,7 @@ static void reads(const struct tkc_clock *clock, const struct tkc_counter *count
 	struct tkc_snapshot snapshot, other;
 	uint64_t words[TKC_WORDS], out[3], first;
 	struct tkc_time time;
+	struct tkc_line line;
 	size_t done;
 
 	tkc_clock_snapshot(&snapshot, clock);
@@ -143,6 +144,10 @@ static void reads(const struct tkc_clock *clock, const struct tkc_counter *count
 	     tkc_snapshot_get(&time, &snapshot, TKC_CLOCK_TAI, UINT64_MAX));
 	MEET(TKC_RANGE, tkc_snapshot_get(&time, &snapshot, TKC_CLOCK_MONOTONIC,
 					 2000000000));
+	MEET(TKC_OK, tkc_snapshot_line(&line, &snapshot, TKC_CLOCK_BOOTTIME));
+	MEET(TKC_BAD_CLOCK, tkc_snapshot_line(&line, &snapshot, 2));
+	need(tkc_line_ns(&first, &line, 7) && first == 946080004000000000,
+	     "BOOTTIME is 5 s after MONOTONIC, which is 1 s before its end");
 	MEET(TKC_OK, tkc_snapshot_reading(&first, &snapshot, TKC_CLOCK_BOOTTIME, 5, 0));
 	need(first == 7, "BOOTTIME was 5 s at the last command");
 	MEET(TKC_BAD_CLOCK, tkc_snapshot_reading(&first, &snapshot, 2, 5, 0));

@@ -155,6 +155,24 @@ static void snapshot_get(void *out)
 	made(tkc_snapshot_get(out, &snapshot, TKC_CLOCK_BOOTTIME, 12));
 }
 
+static void snapshot_line(void *out)
+{
+	struct tkc_snapshot snapshot;
+
+	fill_snapshot(&snapshot);
+	made(tkc_snapshot_line(out, &snapshot, TKC_CLOCK_BOOTTIME));
+}
+
+static void line_get(void *out)
+{
+	struct tkc_snapshot snapshot;
+	struct tkc_line line;
+
+	fill_snapshot(&snapshot);
+	made(tkc_snapshot_line(&line, &snapshot, TKC_CLOCK_BOOTTIME));
+	made(!tkc_line_get(out, &line, 12));
+}
+
 static void snapshot_reading(void *out)
 {
 	struct tkc_snapshot snapshot;
@@ -194,6 +212,8 @@ const struct filled filled_clocks[] = {
 	{ "snapshot_from_words", snapshot_from_words, sizeof(struct tkc_snapshot) },
 	{ "snapshot_counter", snapshot_counter, sizeof(struct tkc_counter) },
 	{ "snapshot_get", snapshot_get, sizeof(struct tkc_time) },
+	{ "snapshot_line", snapshot_line, sizeof(struct tkc_line) },
+	{ "line_get", line_get, sizeof(struct tkc_time) },
 	{ "snapshot_reading", snapshot_reading, sizeof(uint64_t) },
 	{ "snapshot_convert", snapshot_convert, sizeof(uint64_t[10]) },
 	{ NULL, NULL, 0 },

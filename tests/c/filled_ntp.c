@@ -64,6 +64,13 @@ static void ntp_leapt(void *out)
 	ask(out, 10 * (uint64_t)SECOND, TKC_ADJ_TAI);
 }
 
+/* The leap second of `ntp_leapt`, late and with the two seconds after it. */
+static void ntp_late(void *out)
+{
+	ntp_steered(out);
+	made(tkc_ntp_advance_late(out, 4 * (uint64_t)SECOND));
+}
+
 static void ntp_commanded(void *out)
 {
 	static const uint32_t commands[] = { TKC_CMD_UPDATE, TKC_CMD_STEP, TKC_CMD_FREQ,
@@ -118,6 +125,7 @@ const struct filled filled_ntp[] = {
 	{ "ntp_open_at", ntp_open_at, sizeof(struct tkc_ntp) },
 	{ "ntp_steered", ntp_steered, sizeof(struct tkc_ntp) },
 	{ "ntp_leapt", ntp_leapt, sizeof(struct tkc_ntp) },
+	{ "ntp_late", ntp_late, sizeof(struct tkc_ntp) },
 	{ "ntp_commanded", ntp_commanded, sizeof(struct tkc_ntp) },
 	{ "ntp_load", ntp_load, sizeof(struct tkc_ntp) },
 	{ "ntp_save", ntp_save, sizeof(uint64_t[TKC_NTP_SAVED_WORDS]) },

@@ -53,6 +53,7 @@ enum { PERIOD = 50 }; /* us */
 #include <tkcore_page.h>
 
 static struct tkc_latch latch;
+static struct tkc_latch_reader reader; /* the handler's */
 static struct tkc_clock clocks;
 static volatile uint64_t cycles; /* what the counter shows */
 static volatile int counter_reads; /* in this interrupt */
@@ -98,7 +99,7 @@ static const char *check_words(const uint64_t words[TKC_WORDS])
 	return NULL;
 }
 
-/* Reads the latch in both ways. Returns what is wrong, or NULL. */
+/* Reads the latch in each way. Returns what is wrong, or NULL. */
 static const char *look(void)
 {
 	struct tkc_time now, time;
@@ -117,7 +118,12 @@ static const char *look(void)
 		return "no time was read";
 	if (tkc_snapshot_get(&time, &snapshot, TKC_CLOCK_REALTIME, cycles + CYCLES / 2))
 		return "the snapshot has no time";
-	return memcmp(&now, &time, sizeof(now)) ? "the time isn't the snapshot's" : NULL;
+	if (memcmp(&now, &time, sizeof(now)))
+		return "the time isn't the snapshot's";
+	counter_reads = 0;
+	if (tkc_latch_reader_get(&reader, read_counter, NULL, &now))
+		return "no time was read by a line";
+	return memcmp(&now, &time, sizeof(now)) ? "the time by a line isn't the snapshot's" : NULL;
 }
 
 static void interrupt(int number)
@@ -177,7 +183,7 @@ static uint32_t open_latch(void)
 	tkc_clock_snapshot(&snapshot, &clocks);
 	tkc_snapshot_words(words_of[0], &snapshot);
 	tkc_latch_init(&latch, &snapshot);
-	return TKC_OK;
+	return tkc_latch_reader_init(&reader, &latch, TKC_CLOCK_REALTIME);
 }
 
 static void set_timer(suseconds_t microseconds)

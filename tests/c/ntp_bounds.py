@@ -12,6 +12,7 @@ from ntp import (ADJTIME, ESTERROR, FIELDS, FREQUENCY, MAXERROR, MICRO, NANO, OF
 PARTS, BITS = (1, 100, 250, 1000), (8, 32, 64)
 OPENED = 0, 1, 1024, 1025               # the bounds of hz, and one past each
 REFUSALS = "asleep", "behind", "invalid", "range"
+LATE = "a second", "several seconds", "an inserted second", "a deleted second"
 
 
 def both(*values):
@@ -65,6 +66,8 @@ class Met:
         word, *numbers = record.split(",")
         if word == "open":
             self.counts["opened with", int(numbers[-1])] += 1
+        if word == "late" and line.startswith("ok"):
+            self.add_late(*session.began_late)
         if word != "adjtimex":
             return
         request = Timex(*map(int, numbers[1:]))
@@ -77,6 +80,12 @@ class Met:
         if line.startswith("adj,") or request.is_faulty():
             self.add_bounds(request)
 
+    def add_late(self, seconds, inserted):
+        if seconds:
+            self.counts["late", LATE[seconds > 1]] += 1
+        if inserted:
+            self.counts["late", LATE[2 if inserted > 0 else 3]] += 1
+
     def add_bounds(self, request):
         for name, (modes, field, values) in BOUNDS.items():
             if request.modes == modes and getattr(request, field) in values:
@@ -86,11 +95,12 @@ class Met:
         """Returns what a comparison must meet and hasn't met."""
         wanted = [("hz", hz) for hz in PARTS] + [("bits", bits) for bits in BITS] + ALL
         wanted += [("refused", refusal) for refusal in REFUSALS]
+        wanted += [("late", kind) for kind in LATE]
         wanted += [("opened with", hz) for hz in OPENED]
         return [f"{name} {value}" for name, value in wanted if not self.counts[name, value]]
 
     def text(self):
-        kinds = {"hz": PARTS, "bits": BITS, "refused": REFUSALS}
+        kinds = {"hz": PARTS, "bits": BITS, "refused": REFUSALS, "late": LATE}
         parts = [f"{kind} " + ", ".join(f"{value}: {self.counts[kind, value]}" for value in values)
                  for kind, values in kinds.items()]
         least = min(self.counts[bound] for bound in ALL)

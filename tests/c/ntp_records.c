@@ -70,12 +70,37 @@ static void open_clocks(struct session *session, const struct record *record, ch
 	print_code(line, "open", code);
 }
 
+static int64_t monotonic_ns(const struct tkc_ntp *ntp, uint64_t reading)
+{
+	struct tkc_snapshot snapshot;
+	struct tkc_time time;
+
+	tkc_ntp_snapshot(&snapshot, ntp);
+	check(!tkc_snapshot_get(&time, &snapshot, TKC_CLOCK_MONOTONIC, reading));
+	return time.sec * 1000000000 + time.nsec;
+}
+
 static void advance(struct session *session, const struct record *record, char *line)
 {
 	struct tkc_ntp before = session->ntp;
-	uint32_t code = tkc_ntp_advance(&session->ntp, record->numbers[0]);
+	uint64_t reading = record->numbers[0];
+	uint32_t code = tkc_ntp_advance(&session->ntp, reading);
 
 	check(!code || !memcmp(&session->ntp, &before, sizeof(before)));
+	print_code(line, "ok", code);
+}
+
+/* At the reading, MONOTONIC must be as it was by the clocks before the call. */
+static void advance_late(struct session *session, const struct record *record, char *line)
+{
+	struct tkc_ntp before = session->ntp;
+	uint64_t reading = record->numbers[0];
+	uint32_t code = tkc_ntp_advance_late(&session->ntp, reading);
+
+	if (code)
+		check(!memcmp(&session->ntp, &before, sizeof(before)));
+	else
+		check(monotonic_ns(&session->ntp, reading) == monotonic_ns(&before, reading));
 	print_code(line, "ok", code);
 }
 
@@ -183,6 +208,8 @@ void answer(struct session *session, const char *text, char line[LINE_SIZE])
 		open_clocks(session, &record, line);
 	else if (!strcmp(record.word, "advance"))
 		advance(session, &record, line);
+	else if (!strcmp(record.word, "late"))
+		advance_late(session, &record, line);
 	else if (!strcmp(record.word, "apply"))
 		apply_command(session, &record, line);
 	else if (!strcmp(record.word, "adjtimex"))

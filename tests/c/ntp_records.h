@@ -8,6 +8,7 @@
  *	openat,BITS,MULT,SHIFT,READING,SEC,NSEC,PARTS,
  *		UPTIME_SEC,UPTIME_NSEC			open
  *	advance,READING					ok
+ *	late,READING					ok
  *	apply,READING,COMMAND,NUMBER,NSEC		ok
  *	adjtimex,READING,MODES,OFFSET,FREQ,MAXERROR,ESTERROR,STATUS,CONSTANT,
  *		TICK,SEC,SUB				adj,STATE,SEC.SUB,OFFSET,FREQ,
@@ -16,8 +17,9 @@
  *	get,CLOCK,READING				at,SEC.NSEC
  *	next						next,READING
  *
- * PARTS is the discipline's hz. `get` advances first. A call that fails is
- * answered `no,CODE`.
+ * PARTS is the discipline's hz. `late` advances with tkc_ntp_advance_late, and
+ * `get` advances first with tkc_ntp_advance. A call that fails is answered
+ * `no,CODE`.
  */
 #ifndef NTP_RECORDS_H
 #define NTP_RECORDS_H

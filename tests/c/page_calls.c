@@ -147,6 +147,30 @@ static void check_clock(void)
 	      "tkc_page_recover left other clocks");
 }
 
+/* Attaches a page, and makes a reader of it, which returns the same code and writes nothing if it
+ * fails. */
+static uint32_t attach_page(const struct tkc_page *of)
+{
+	static struct tkc_page_reader zeros, reader;
+	uint32_t code = tkc_page_attach(of);
+
+	memset(&reader, 0, sizeof(reader));
+	check(tkc_page_reader_init(&reader, of, TKC_CLOCK_TAI) == code, "another code of a reader");
+	check(!code == !!memcmp(&reader, &zeros, sizeof(zeros)), "a refused reader was written");
+	return code;
+}
+
+static uint32_t attach_latch(const struct tkc_latch *of)
+{
+	static struct tkc_latch_reader zeros, reader;
+	uint32_t code = tkc_latch_attach(of);
+
+	memset(&reader, 0, sizeof(reader));
+	check(tkc_latch_reader_init(&reader, of, TKC_CLOCK_TAI) == code, "another code of a reader");
+	check(!code == !!memcmp(&reader, &zeros, sizeof(zeros)), "a refused reader was written");
+	return code;
+}
+
 /* The layouts before the counter was published with the words: "tkcpage" and "tkclatc", 1. */
 static void check_former_layouts(void)
 {
@@ -155,14 +179,14 @@ static void check_former_layouts(void)
 
 	memcpy(&former, &page, sizeof(page));
 	memcpy(&former.layout, "\x01" "egapckt", 8);
-	check(tkc_page_attach(&former) == TKC_BAD_LAYOUT, "the former layout is a page");
+	check(attach_page(&former) == TKC_BAD_LAYOUT, "the former layout is a page");
 	memcpy(&former_latch, &latch, sizeof(latch));
 	memcpy(&former_latch.layout, "\x01" "ctalckt", 8);
-	check(tkc_latch_attach(&former_latch) == TKC_BAD_LAYOUT, "the former layout is a latch");
+	check(attach_latch(&former_latch) == TKC_BAD_LAYOUT, "the former layout is a latch");
 	memcpy(&former.layout, "\x02" "egapckt", 8);
-	check(tkc_page_attach(&former) == TKC_OK, "this layout is no page");
+	check(attach_page(&former) == TKC_OK, "this layout is no page");
 	memcpy(&former_latch.layout, "\x02" "ctalckt", 8);
-	check(tkc_latch_attach(&former_latch) == TKC_OK, "this layout is no latch");
+	check(attach_latch(&former_latch) == TKC_OK, "this layout is no latch");
 	check(sizeof(former) == 256 && sizeof(former_latch) == 224, "another size of this layout");
 }
 
@@ -174,15 +198,15 @@ static void check_layout(void)
 	struct tkc_snapshot snapshot_found;
 	struct tkc_clock found;
 
-	check(tkc_page_attach(&page) == TKC_OK, "the page isn't one");
-	check(tkc_latch_attach(&latch) == TKC_OK, "the latch isn't one");
-	check(tkc_page_attach(&no_page) == TKC_BAD_LAYOUT, "zeros are a page");
-	check(tkc_latch_attach(&no_latch) == TKC_BAD_LAYOUT, "zeros are a latch");
+	check(attach_page(&page) == TKC_OK, "the page isn't one");
+	check(attach_latch(&latch) == TKC_OK, "the latch isn't one");
+	check(attach_page(&no_page) == TKC_BAD_LAYOUT, "zeros are a page");
+	check(attach_latch(&no_latch) == TKC_BAD_LAYOUT, "zeros are a latch");
 	check(tkc_page_clock(&no_page, &found) == TKC_BAD_LAYOUT, "zeros have clocks");
 	memcpy(&no_latch, &page, sizeof(no_latch));
-	check(tkc_latch_attach(&no_latch) == TKC_BAD_LAYOUT, "a page is a latch");
+	check(attach_latch(&no_latch) == TKC_BAD_LAYOUT, "a page is a latch");
 	memcpy(&no_page, &latch, sizeof(latch));
-	check(tkc_page_attach(&no_page) == TKC_BAD_LAYOUT, "a latch is a page");
+	check(attach_page(&no_page) == TKC_BAD_LAYOUT, "a latch is a page");
 	check_former_layouts();
 	memcpy(&no_page, &page, sizeof(page));
 	memset(&no_page.copies[0][TKC_WORDS], 0, sizeof(no_page.copies[0][0]));

@@ -77,6 +77,12 @@ static uint64_t front_of(const struct tkc_snapshot *snapshot)
 	return words[0];
 }
 
+struct keeper {
+	int is_latch;
+	struct tkc_page_reader page;
+	struct tkc_latch_reader latch;
+};
+
 /* Looks once. Returns MONOTONIC in ns by the snapshot's own counter. */
 static uint64_t look(int is_latch, uint64_t *front)
 {
@@ -84,14 +90,10 @@ static uint64_t look(int is_latch, uint64_t *front)
 	struct tkc_snapshot snapshot;
 	struct tkc_time time;
 	uint64_t reading;
-	enum tkc_code code;
 
-	if (is_latch)
-		code = tkc_latch_look(&shared->latch, read_counters, &readings, &snapshot,
-				      &reading);
-	else
-		code = tkc_page_look(&shared->page, read_counters, &readings, &snapshot, &reading);
-	if (code)
+	if (is_latch ?
+	    tkc_latch_look(&shared->latch, read_counters, &readings, &snapshot, &reading) :
+	    tkc_page_look(&shared->page, read_counters, &readings, &snapshot, &reading))
 		fail("a look has no snapshot");
 	*front = front_of(&snapshot);
 	if (tkc_snapshot_get(&time, &snapshot, TKC_CLOCK_MONOTONIC,
@@ -100,15 +102,39 @@ static uint64_t look(int is_latch, uint64_t *front)
 	return (uint64_t)time.sec * 1000000000 + time.nsec;
 }
 
-/* Reads until the end. Only a page's MONOTONIC never goes back. */
+/* Does the same by the line that a reader keeps. */
+static uint64_t look_by_line(struct keeper *keeper, uint64_t *front)
+{
+	const struct tkc_kept *kept = keeper->is_latch ? &keeper->latch.kept : &keeper->page.kept;
+	struct readings readings;
+	uint64_t reading, nanos;
+	enum tkc_code code;
+
+	if (keeper->is_latch)
+		code = tkc_latch_reader_look(&keeper->latch, read_counters, &readings, &reading);
+	else
+		code = tkc_page_reader_look(&keeper->page, read_counters, &readings, &reading);
+	if (code)
+		fail("a look by a line has no snapshot");
+	*front = front_of(&kept->snapshot);
+	if (tkc_kept_ns(kept, readings.of[counter_of(&kept->snapshot)], &nanos))
+		fail("MONOTONIC has no time by a line");
+	return nanos;
+}
+
+/* Reads until the end, with and without a line in turn. Only a page's MONOTONIC never goes back. */
 static void read_all(int number)
 {
 	int is_latch = number % THREADS == THREADS - 1;
-	uint64_t front = 0, latest = 0, next, value, is_last;
+	uint64_t front = 0, latest = 0, next, value, is_last, turn = 0;
+	struct keeper keeper = { .is_latch = is_latch };
 
+	if (tkc_page_reader_init(&keeper.page, &shared->page, TKC_CLOCK_MONOTONIC) ||
+	    tkc_latch_reader_init(&keeper.latch, &shared->latch, TKC_CLOCK_MONOTONIC))
+		fail("no reader was made");
 	do {
 		is_last = shared->is_done;
-		value = look(is_latch, &next);
+		value = turn++ % 3 ? look_by_line(&keeper, &next) : look(is_latch, &next);
 		if (next < front)
 			fail("the front went back");
 		if (!is_latch && value < latest)

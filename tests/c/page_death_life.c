@@ -9,6 +9,10 @@
 
 struct life life = { .place = -1 };
 
+/* The life's own readers, with the lines that they keep. */
+static struct tkc_page_reader page_reader;
+static struct tkc_latch_reader latch_reader;
+
 static uint64_t advance_counter(void)
 {
 	return CYCLES + atomic_fetch_add(&shared->cycles, CYCLES);
@@ -59,17 +63,27 @@ static void check_page(void)
 
 	if (code != (is_inside ? TKC_BUSY : TKC_OK))
 		fail(is_inside ? "a reader doesn't wait for a writer" : "a reader waits for nobody");
-	if (!is_inside && page_front() != (done < BEGIN ? life.page_front : life.front))
+	if (tkc_page_reader_try_get(&page_reader, 1, read_counter, NULL, &time) != code)
+		fail("a reader with a line returns another code");
+	if (is_inside)
+		return;
+	if (page_front() != (done < BEGIN ? life.page_front : life.front))
 		fail("the page's snapshot isn't the last one");
+	if (front_of(&page_reader.kept.snapshot) != page_front())
+		fail("the line isn't that of the last snapshot");
 }
 
 /* Copy 0 is selected after the first sequence, its words and the second sequence. */
 static void check_latch(void)
 {
 	int done = life.stores - life.latch;
+	uint64_t reading;
 
 	if (latch_front() != (done < 2 + TKC_LATCH_WORDS ? life.latch_front : life.front))
 		fail("the latch's snapshot isn't the last one");
+	if (tkc_latch_reader_look(&latch_reader, read_counter, NULL, &reading) ||
+	    front_of(&latch_reader.kept.snapshot) != latch_front())
+		fail("the line isn't that of the latch's last snapshot");
 }
 
 void at_store(void)
@@ -157,6 +171,9 @@ void live(int number, int place, uint64_t front, int commands)
 	struct tkc_snapshot snapshot;
 	struct tkc_clock clock;
 
+	if (tkc_page_reader_init(&page_reader, &shared->page, TKC_CLOCK_TAI) ||
+	    tkc_latch_reader_init(&latch_reader, &shared->latch, TKC_CLOCK_TAI))
+		fail("no reader was made");
 	if (tkc_page_clock(&shared->page, &clock))
 		fail("the clocks can't be rebuilt");
 	tkc_clock_snapshot(&snapshot, &clock);

@@ -9,23 +9,48 @@
 #include <time.h>
 #include <unistd.h>
 
-/* Reads the page until the end, when it must have the last snapshot. */
+/* Looks at the page. Returns MONOTONIC in ns. */
+static uint64_t look(struct tkc_snapshot *snapshot)
+{
+	struct tkc_time time;
+	uint64_t reading;
+
+	if (tkc_page_look(&shared->page, read_counter, NULL, snapshot, &reading) ||
+	    tkc_snapshot_get(&time, snapshot, TKC_CLOCK_MONOTONIC,
+			     readings_at(reading).of[counter_of(snapshot)]))
+		fail("a reader of the page has no time");
+	return (uint64_t)time.sec * 1000000000 + time.nsec;
+}
+
+/* Does the same by the line that a reader keeps. */
+static uint64_t look_by_line(struct tkc_page_reader *reader, struct tkc_snapshot *snapshot)
+{
+	uint64_t reading, nanos;
+
+	if (tkc_page_reader_look(reader, read_counter, NULL, &reading) ||
+	    tkc_kept_ns(&reader->kept, readings_at(reading).of[counter_of(&reader->kept.snapshot)],
+			&nanos))
+		fail("a reader of the page has no time by its line");
+	*snapshot = reader->kept.snapshot;
+	return nanos;
+}
+
+/* Reads the page until the end, when it must have the last snapshot, with and without a line in
+ * turn. */
 static void read_page(void)
 {
-	uint64_t front = 0, latest = 0, value, reading;
+	uint64_t front = 0, latest = 0, value, turn = 0;
+	struct tkc_page_reader reader;
 	struct tkc_snapshot snapshot;
-	struct tkc_time time;
 	int is_last;
 
+	if (tkc_page_reader_init(&reader, &shared->page, TKC_CLOCK_MONOTONIC))
+		fail("no reader was made");
 	do {
 		is_last = shared->is_done;
-		if (tkc_page_look(&shared->page, read_counter, NULL, &snapshot, &reading) ||
-		    tkc_snapshot_get(&time, &snapshot, TKC_CLOCK_MONOTONIC,
-				     readings_at(reading).of[counter_of(&snapshot)]))
-			fail("a reader of the page has no time");
+		value = turn++ % 2 ? look_by_line(&reader, &snapshot) : look(&snapshot);
 		if (front_of(&snapshot) < front)
 			fail("the page's front went back");
-		value = (uint64_t)time.sec * 1000000000 + time.nsec;
 		if (value < latest)
 			fail("MONOTONIC went back");
 		front = front_of(&snapshot);
@@ -37,12 +62,17 @@ static void read_page(void)
 
 static void read_latch(void)
 {
-	uint64_t front = 0, latest;
+	uint64_t front = 0, latest, turn = 0, reading;
+	struct tkc_latch_reader reader;
 	int is_last;
 
+	if (tkc_latch_reader_init(&reader, &shared->latch, TKC_CLOCK_MONOTONIC))
+		fail("no reader was made");
 	do {
 		is_last = shared->is_done;
-		latest = latch_front();
+		if (tkc_latch_reader_look(&reader, read_counter, NULL, &reading))
+			fail("a reader of the latch has no line");
+		latest = turn++ % 2 ? front_of(&reader.kept.snapshot) : latch_front();
 		if (latest < front)
 			fail("the latch's front went back");
 		front = latest;

@@ -13,7 +13,9 @@
  *
  * A writer may die before each of its steps, and another one takes over. Meanwhile a reader reads,
  * again and again. Readers store nothing, so one that knows what it read before is as good as
- * several that pass it on to one another. No read may be a mixture or go back.
+ * several that pass it on to one another. No read may be a mixture or go back. A reader that keeps a
+ * line stores it only for itself: each read is by one of two of them, the first of which has the
+ * line of the first clocks.
  *
  * tests/c/model_controls shows that this finds wrong headers.
  */
@@ -79,7 +81,7 @@ static void run(void)
 		check_read(number, reading);
 	thread->steps = 0;
 	memset(thread->results, 0, sizeof(thread->results));
-	if (now->reads == READS)
+	if (now->reads == scene->reads)
 		end(thread);
 }
 
@@ -202,6 +204,8 @@ static void begin(struct state *state)
 	if (!scene->starts_empty)
 		state->values[0][0].value = LAYOUT;
 	state->threads[0].progress = state->threads[READER].progress = RUNS;
+	for (int i = 1; i < KEEPERS; i++)
+		state->keepers[i].sequence = 1;
 }
 
 int main(int argc, char **argv)

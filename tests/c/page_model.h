@@ -19,6 +19,9 @@ void model_fence(memory_order order);
 uint64_t model_counter(void *context);
 uint32_t model_command(uint32_t clock);
 
+/* Returns any number below `count`, which needs no step of the machine. */
+uint32_t model_any(uint32_t count);
+
 /* Prints what is wrong, and ends the process. */
 _Noreturn void fail(const char *what);
 
@@ -42,6 +45,11 @@ struct tkc_clock {
 
 struct tkc_time {
 	int64_t sec;
+	uint32_t nsec;
+};
+
+struct tkc_line {
+	uint32_t number;
 };
 
 static inline enum tkc_code tkc_counter_new(struct tkc_counter *out, uint32_t bits, uint32_t mult,
@@ -88,6 +96,28 @@ static inline enum tkc_code tkc_snapshot_get(struct tkc_time *out,
 	(void)reading;
 	out->sec = snapshot->number;
 	return TKC_OK;
+}
+
+static inline enum tkc_code tkc_snapshot_line(struct tkc_line *out,
+					      const struct tkc_snapshot *snapshot, uint32_t clock)
+{
+	(void)clock;
+	out->number = snapshot->number;
+	return TKC_OK;
+}
+
+static inline int tkc_line_get(struct tkc_time *out, const struct tkc_line *line, uint64_t reading)
+{
+	(void)reading;
+	out->sec = line->number;
+	return 1;
+}
+
+static inline int tkc_line_ns(uint64_t *out, const struct tkc_line *line, uint64_t reading)
+{
+	(void)reading;
+	*out = line->number;
+	return 1;
 }
 
 static inline void tkc_clock_snapshot(struct tkc_snapshot *out, const struct tkc_clock *clock)

@@ -145,6 +145,16 @@ uint8_t time_of(uint32_t clock, uint64_t reading)
 	return (uint8_t)(now->times[clock] + (now->fronts[clock] % 2 ? cycles : 2 * cycles));
 }
 
+uint32_t model_any(uint32_t count)
+{
+	uint64_t result;
+
+	if (was_made(&result))
+		return (uint32_t)result;
+	choices = (int)count;
+	return (uint32_t)made((uint64_t)choice);
+}
+
 uint32_t model_command(uint32_t clock)
 {
 	uint64_t result;

@@ -145,12 +145,67 @@ static int read_new_latch(uint32_t *number, uint64_t *reading)
 	return !tkc_latch_attach(&latch) && read_latch(number, reading);
 }
 
+/* Makes what a reader keeps of what is stored between its reads, and stores it after a read. */
+static struct tkc_kept kept_by(const struct keeper *keeper)
+{
+	struct tkc_kept kept = tkc_kept_none(0);
+
+	kept.sequence = keeper->sequence;
+	kept.line.number = kept.snapshot.number = keeper->number;
+	return kept;
+}
+
+static void keep(struct keeper *keeper, const struct tkc_kept *kept)
+{
+	keeper->sequence = (uint8_t)kept->sequence;
+	keeper->number = (uint8_t)kept->line.number;
+	if (kept->line.number != kept->snapshot.number)
+		fail("a line of another snapshot");
+}
+
+/* Reads by one of the readers that keep a line. */
+static int read_kept_page(tkc_read_counter *read_counter, uint32_t *number, uint64_t *reading)
+{
+	struct keeper *keeper = &now->keepers[model_any(KEEPERS)];
+	struct tkc_page_reader reader = { &page, kept_by(keeper) };
+	uint32_t code = tkc_page_reader_try(&reader, read_counter, NULL, reading);
+
+	keep(keeper, &reader.kept);
+	*number = reader.kept.line.number;
+	return code == TKC_OK;
+}
+
+static int keep_page(uint32_t *number, uint64_t *reading)
+{
+	return read_kept_page(model_counter, number, reading);
+}
+
+static int keep_without_counter(uint32_t *number, uint64_t *reading)
+{
+	return read_kept_page(tkc_no_reading, number, reading);
+}
+
+static int keep_latch(uint32_t *number, uint64_t *reading)
+{
+	struct keeper *keeper = &now->keepers[model_any(KEEPERS)];
+	struct tkc_latch_reader reader = { &latch, kept_by(keeper) };
+	uint32_t code = tkc_latch_reader_try(&reader, model_counter, NULL, reading);
+
+	keep(keeper, &reader.kept);
+	*number = reader.kept.line.number;
+	return code == TKC_OK;
+}
+
 const struct scene scenes[SCENES] = {
-	{ "a page", write_page, read_page, 0, 1, 0 },
+	{ "a page", write_page, read_page, 0, 1, 0, READS },
 	{ "a page without tkc_page_begin", write_without_begin, read_without_counter, 0, 0,
-	  0 },
-	{ "a page that is made", write_new_page, read_new_page, 0, 1, 1 },
-	{ "clocks of a page that moves", write_page, rebuild, 0, 0, 0 },
-	{ "a latch", write_latch, read_latch, 1, 0, 0 },
-	{ "a latch that is made", write_new_latch, read_new_latch, 1, 0, 1 },
+	  0, READS },
+	{ "a page with kept lines", write_page, keep_page, 0, 1, 0, KEPT_READS },
+	{ "a page with kept lines, without tkc_page_begin", write_without_begin,
+	  keep_without_counter, 0, 0, 0, KEPT_READS },
+	{ "a page that is made", write_new_page, read_new_page, 0, 1, 1, READS },
+	{ "clocks of a page that moves", write_page, rebuild, 0, 0, 0, READS },
+	{ "a latch", write_latch, read_latch, 1, 0, 0, READS },
+	{ "a latch with kept lines", write_latch, keep_latch, 1, 0, 0, READS },
+	{ "a latch that is made", write_new_latch, read_new_latch, 1, 0, 1, READS },
 };

@@ -13,13 +13,15 @@ enum {
 	THREADS,
 	CLOCKS = 1 + WRITERS, /* the first ones, and those of each writer's command */
 	READS = 2,
+	KEPT_READS = 3, /* of the readers of a page that keep lines */
+	KEEPERS = 2, /* readers that keep a line: it is as if they passed what they read to one another */
 	TICKS = 1, /* of the counter */
 	PLACES = 2 + 2 * TKC_PAGE_WORDS, /* the words of a page */
 	SEQUENCE = 1, /* is the place of the sequence */
 	STORES = 16, /* to one word */
 	STEPS = 150, /* of a writer */
 	LAYOUT = 255, /* stands for the number of a layout */
-	SCENES = 6,
+	SCENES = 9,
 };
 
 enum progress { WAITS, RUNS, ENDED };
@@ -27,6 +29,11 @@ enum progress { WAITS, RUNS, ENDED };
 /* A value that was stored, and what a thread learns from it: a number of values of each word. */
 struct value {
 	uint8_t value, view[PLACES];
+};
+
+/* What a reader keeps between two reads. */
+struct keeper {
+	uint8_t sequence, number;
 };
 
 struct thread {
@@ -42,6 +49,7 @@ struct state {
 	struct value values[PLACES][STORES];
 	uint8_t fenced[PLACES]; /* what full fences made visible to all */
 	uint8_t cycles, reads, front, time; /* of the reader: its latest front and time */
+	struct keeper keepers[KEEPERS];
 	uint8_t fronts[CLOCKS], at[CLOCKS], times[CLOCKS]; /* of clocks, at their command */
 	struct thread threads[THREADS];
 };
@@ -51,7 +59,7 @@ struct scene {
 	const char *name;
 	void (*write)(int writer);
 	int (*read)(uint32_t *number, uint64_t *reading);
-	int is_latch, has_times, starts_empty;
+	int is_latch, has_times, starts_empty, reads;
 };
 
 extern struct tkc_page page;

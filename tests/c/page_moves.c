@@ -39,7 +39,7 @@ struct call {
 	const char *name;
 	/* Makes the call, whose result is clocks, or a snapshot if `is_read`. */
 	uint32_t (*make)(struct tkc_clock *clocks, struct tkc_snapshot *snapshot);
-	int is_latch, is_read, waits;
+	int is_latch, is_read, waits, has_line;
 };
 
 static struct tkc_page page;
@@ -160,10 +160,20 @@ static uint32_t look_at_latch(struct tkc_clock *found, struct tkc_snapshot *snap
 	return reading == cycles ? code : TKC_INVALID;
 }
 
+#include "page_moves_readers.h"
+
 static const struct call calls[] = {
-	{ "tkc_page_clock", rebuild, 0, 0, 0 },	     { "tkc_page_read", read_page, 0, 1, 1 },
-	{ "tkc_page_look", look_at_page, 0, 1, 1 },  { "tkc_page_try_now", try_page, 0, 1, 0 },
-	{ "tkc_latch_read", read_latch, 1, 1, 1 },   { "tkc_latch_look", look_at_latch, 1, 1, 1 },
+	{ "tkc_page_clock", rebuild, 0, 0, 0, 0 },
+	{ "tkc_page_read", read_page, 0, 1, 1, 0 },
+	{ "tkc_page_look", look_at_page, 0, 1, 1, 0 },
+	{ "tkc_page_try_now", try_page, 0, 1, 0, 0 },
+	{ "tkc_page_reader_look without a line", look_anew, 0, 1, 1, 0 },
+	{ "tkc_page_reader_look", look_by_line, 0, 1, 1, 1 },
+	{ "tkc_page_reader_try_get", try_line, 0, 1, 0, 1 },
+	{ "tkc_latch_read", read_latch, 1, 1, 1, 0 },
+	{ "tkc_latch_look", look_at_latch, 1, 1, 1, 0 },
+	{ "tkc_latch_reader_look without a line", look_at_latch_anew, 1, 1, 1, 0 },
+	{ "tkc_latch_reader_look", look_at_latch_by_line, 1, 1, 1, 1 },
 };
 
 static void open_all(void)
@@ -179,6 +189,7 @@ static void open_all(void)
 	is_writer = 1;
 	tkc_page_init_clock(&page, &clocks);
 	tkc_latch_init(&latch, &snapshot);
+	init_readers();
 	is_writer = 0;
 	former = clocks;
 }
@@ -248,7 +259,7 @@ static int check_all(const struct call *call)
 		first++;
 	for (last = count - 1; last >= 0 && !is_sequence[last];)
 		last--;
-	if (last != count - 1 || last - first <= TKC_LATCH_WORDS)
+	if (last != count - 1 || last - first <= (call->has_line ? 1 : TKC_LATCH_WORDS))
 		fail(call->name, "something isn't between two loads of the sequence");
 	for (move = 1; move < MOVES; move++)
 		for (before = 0; before <= last; before++) {

@@ -31,6 +31,8 @@ struct reader {
 	pthread_t thread;
 	const struct machine *machine;
 	int reads_latch;
+	struct tkc_page_reader page_reader;
+	struct tkc_latch_reader latch_reader;
 	uint64_t reads, front, nanoseconds;
 	const char *wrong;
 };
@@ -113,6 +115,8 @@ static uint32_t now(struct reader *reader, struct tkc_time *time)
 		return code;
 	return tkc_snapshot_get(time, &snapshot, TKC_CLOCK_MONOTONIC, read_counter(NULL));
 #else
+	if (reader->reads % 2)
+		return tkc_page_reader_get(&reader->page_reader, read_counter, NULL, time);
 	return tkc_page_now(&reader->machine->page, TKC_CLOCK_MONOTONIC, read_counter, NULL, time);
 #endif
 }
@@ -150,7 +154,9 @@ static const char *look(struct reader *reader)
 	}
 	if (reader->reads_latch)
 		return tkc_latch_now(&reader->machine->latch, TKC_CLOCK_MONOTONIC, read_counter,
-				     NULL, &time) ? "the latch has no time" : NULL;
+				     NULL, &time) ||
+		       tkc_latch_reader_get(&reader->latch_reader, read_counter, NULL, &time) ?
+		       "the latch has no time" : NULL;
 	if (now(reader, &time))
 		return "MONOTONIC has no time";
 	nanoseconds = (uint64_t)time.sec * 1000000000 + time.nsec;
@@ -192,7 +198,11 @@ static void start_readers(struct reader readers[READERS + 1], const struct machi
 {
 	for (int i = 0; i <= READERS; i++) {
 		readers[i] = (struct reader){ .machine = machine, .reads_latch = i == READERS };
-		if (pthread_create(&readers[i].thread, NULL, read_all, &readers[i])) {
+		if (tkc_page_reader_init(&readers[i].page_reader, &machine->page,
+					 TKC_CLOCK_MONOTONIC) ||
+		    tkc_latch_reader_init(&readers[i].latch_reader, &machine->latch,
+					  TKC_CLOCK_MONOTONIC) ||
+		    pthread_create(&readers[i].thread, NULL, read_all, &readers[i])) {
 			fprintf(stderr, "page_tsc: can't start a thread\n");
 			exit(EXIT_FAILURE);
 		}

@@ -4,7 +4,8 @@
  * 6.1.192 with HZ 250, gave the same replies. They differ only in REALTIME, and
  * only where a second began at a tick after its beginning: by at most 1 us in
  * these rows, and by a second at the very midnight of a leap second. Such times
- * are those of tests/model/steered_clock.py.
+ * are those of tests/model/steered_clock.py. The times of seconds that begin late
+ * are computed from the equations of docs/NTP.md.
  */
 #include "ntp_records.h"
 #include "worked_rows.h"
@@ -206,6 +207,63 @@ static const struct ntp_row ticks[] = {
 	  "adj,ok,1700000024.499878498,9103432,-6553600,12000,16000000,8193,6,9900,0" },
 };
 
+/* Seconds that begin late, with an offset of -100 ms: the first at the reading
+ * 500,000,000. With tkc_ntp_advance, MONOTONIC would be 39,065 ns less at the
+ * reading 600,000,000. The last of the late calls begins three seconds. */
+static const struct ntp_row late[] = {
+	{ "openhz,64,1000000000,600,0,1700000000,500000000,250", "open" },
+	{ "adjtimex,0,0x2035,-100000000,0,0,0,1,6,0,0,0",
+	  "adj,ok,1700000000.500000000,-100000000,0,0,16000000,8193,6,10000,0" },
+	{ "next", "next,500000000" },
+	{ "late,600000000", "ok" },
+	{ "get,1,600000000", "at,0.600000000" },
+	{ "adjtimex,1000000000,0x0,0,0,0,0,0,0,0,0,0",
+	  "adj,ok,1700000001.499828100,-99609375,0,500,16000000,8193,6,10000,0" },
+	{ "next", "next,1500386941" },
+	{ "late,1600000000", "ok" },
+	{ "get,1,1600000000", "at,1.599570250" },
+	{ "next", "next,2500780135" },
+	{ "late,5000000000", "ok" },
+	{ "get,1,5000000000", "at,4.998247718" },
+	{ "adjtimex,5000000000,0x0,0,0,0,0,0,0,0,0,0",
+	  "adj,ok,1700000005.498247718,-98062074,0,2500,16000000,8193,6,10000,0" },
+	{ "adjtimex,10000000000,0x0,0,0,0,0,0,0,0,0,0",
+	  "adj,ok,1700000010.496347152,-96161704,0,5000,16000000,8193,6,10000,0" },
+	{ "next", "next,10503842886" },
+};
+
+/* A second is inserted 500 ns after midnight: the leap is the last command. */
+static const struct ntp_row inserted_late[] = {
+	{ "openhz,64,1000000000,600,0,1483228797,499000000,250", "open" },
+	{ "adjtimex,0,0x94,0,0,0,0,16,36,0,0,0",
+	  "adj,ok,1483228797.499000,0,0,0,16000000,16,2,10000,36" },
+	{ "late,1000000000", "ok" },
+	{ "late,2501000500", "ok" },
+	{ "get,0,2501000500", "at,1483228799.000000500" },
+	{ "get,11,2501000500", "at,1483228836.000000500" },
+	{ "get,1,2501000500", "at,2.501000500" },
+	{ "advance,2501000499", "no,TKC_BEHIND" },
+	{ "next", "next,3501000000" },
+	{ "adjtimex,3000000000,0x0,0,0,0,0,0,0,0,0,0",
+	  "adj,oop,1483228799.499000,0,0,1500,16000000,16,2,10000,37" },
+};
+
+/* Refusals in their order. The reading after the last one that is refused as behind
+ * is half of the counter's range ahead. */
+static const struct ntp_row late_refused[] = {
+	{ "openhz,32,1000000000,2,5,1700000000,0,250", "open" },
+	{ "late,4294967296", "no,TKC_INVALID" },
+	{ "late,4", "no,TKC_BEHIND" },
+	{ "late,2147483653", "no,TKC_BEHIND" },
+	{ "late,2147483652", "ok" },
+	{ "apply,2147483652,6,0,0", "ok" },
+	{ "late,4294967296", "no,TKC_ASLEEP" },
+	{ "late,2147483651", "no,TKC_ASLEEP" },
+	{ "apply,2147483652,7,0,0", "ok" },
+	{ "late,2147483651", "no,TKC_BEHIND" },
+	{ "late,2147483652", "ok" },
+};
+
 static struct session session;
 
 static void try_row(const struct ntp_row *row)
@@ -230,4 +288,7 @@ void try_ntp(void)
 	try_each(errors, try_row);
 	try_each(steps, try_row);
 	try_each(ticks, try_row);
+	try_each(late, try_row);
+	try_each(inserted_late, try_row);
+	try_each(late_refused, try_row);
 }

@@ -186,7 +186,7 @@ void check_clock(const struct tkc_clock *clock, const struct stored *wanted)
 
 int main(void)
 {
-	check(tkc_version() == 0x000200);
+	check(tkc_version() == 0x000300);
 	try_counters();
 	try_cycles();
 	try_openings();
@@ -194,6 +194,8 @@ int main(void)
 	try_changes();
 	try_refused_changes();
 	try_reads();
+	try_lines();
+	try_kept_reads();
 	try_lists();
 	try_far_lists();
 	try_readings();

@@ -53,6 +53,9 @@ struct tkc_counter nanosecond_counter(void);
 struct tkc_clock opened(void);
 struct tkc_clock opened_wide(void);
 
+/* Returns clocks of a nanosecond a cycle with a shift of 31, updated at the reading 5. */
+struct tkc_clock opened_fine(void);
+
 /* Applies a command, which must return its code. A refused one must leave the
  * clocks as they were. */
 void apply(struct tkc_clock *clock, const struct command *command);
@@ -86,6 +89,8 @@ void try_commands(void);
 void try_changes(void);
 void try_refused_changes(void);
 void try_reads(void);
+void try_lines(void);
+void try_kept_reads(void);
 void try_lists(void);
 void try_far_lists(void);
 void try_readings(void);

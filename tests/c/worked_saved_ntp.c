@@ -193,8 +193,33 @@ static void try_late_reading(const struct late_reading *row)
 	uint32_t state;
 
 	check(tkc_ntp_advance(&ntp, row->reading) == row->code);
+	check(tkc_ntp_advance_late(&ntp, row->reading) == row->code);
 	check(tkc_ntp_apply(&ntp, row->reading, TKC_CMD_UPDATE, 0, 0) == row->code);
 	check(tkc_adjtimex(&timex, &state, &ntp, row->reading) == row->code);
+	check(!memcmp(&ntp, &before, sizeof(ntp)));
+}
+
+/* After 2^63 - 1 calls no call is accepted, and no other test of a reading comes
+ * before that of the count. */
+static void try_full(void)
+{
+	struct tkc_timex timex = { .modes = 0 };
+	uint64_t words[TKC_NTP_SAVED_WORDS];
+	struct tkc_ntp ntp, before;
+	uint32_t state;
+
+	memcpy(words, steered_words, sizeof(words));
+	words[0] = INT64_MAX - 1;
+	check(!tkc_ntp_load(&ntp, words));
+	check(!tkc_ntp_advance_late(&ntp, 9));
+	before = ntp;
+	for (uint64_t reading = 6; reading < 10; reading += 3) {
+		check(tkc_ntp_advance(&ntp, reading) == TKC_FULL);
+		check(tkc_ntp_advance_late(&ntp, reading) == TKC_FULL);
+		check(tkc_ntp_apply(&ntp, reading, 9, 0, 0) == TKC_BAD_COMMAND);
+		check(tkc_ntp_apply(&ntp, reading, TKC_CMD_TICK, 5, 0) == TKC_FULL);
+		check(tkc_adjtimex(&timex, &state, &ntp, reading) == TKC_FULL);
+	}
 	check(!memcmp(&ntp, &before, sizeof(ntp)));
 }
 
@@ -210,4 +235,5 @@ void try_saved_ntp(void)
 	try_each(saved_ntp_words, try_saved_word);
 	try_pairs();
 	try_each(late_readings, try_late_reading);
+	try_full();
 }

@@ -33,7 +33,7 @@ class Library:
     def __init__(self, counter, reading, sec, nsec, hz):
         bits, mult, shift = counter
         self.mask = 2**bits - 1
-        self.ntp = (ctypes.c_uint64 * 27)()
+        self.ntp = (ctypes.c_uint64 * 28)()
         described = (ctypes.c_uint32 * 3)()
         assert self.calls.tkc_counter_new(described, bits, mult, shift) == 0
         numbers = self.at(reading), ctypes.c_int64(sec), nsec, hz

@@ -1,11 +1,12 @@
 # Defines the targets tkcore::tkcore (the shared object) and tkcore::tkcore_static (the archive).
 # Both are found relative to this file.
-get_filename_component(TKCORE_PREFIX "${CMAKE_CURRENT_LIST_DIR}/../../.." ABSOLUTE)
+get_filename_component(TKCORE_LIBDIR "${CMAKE_CURRENT_LIST_DIR}/../.." ABSOLUTE)
+get_filename_component(TKCORE_PREFIX "${TKCORE_LIBDIR}/@UP@" ABSOLUTE)
 
 if(NOT TARGET tkcore::tkcore)
   add_library(tkcore::tkcore SHARED IMPORTED)
   set_target_properties(tkcore::tkcore PROPERTIES
-    IMPORTED_LOCATION "${TKCORE_PREFIX}/lib/@SHARED@"
+    IMPORTED_LOCATION "${TKCORE_LIBDIR}/@SHARED@"
     IMPORTED_SONAME "@SHARED@"
     INTERFACE_INCLUDE_DIRECTORIES "${TKCORE_PREFIX}/include")
 endif()
@@ -13,6 +14,6 @@ endif()
 if(NOT TARGET tkcore::tkcore_static)
   add_library(tkcore::tkcore_static STATIC IMPORTED)
   set_target_properties(tkcore::tkcore_static PROPERTIES
-    IMPORTED_LOCATION "${TKCORE_PREFIX}/lib/libtkcore.a"
+    IMPORTED_LOCATION "${TKCORE_LIBDIR}/libtkcore.a"
     INTERFACE_INCLUDE_DIRECTORIES "${TKCORE_PREFIX}/include")
 endif()

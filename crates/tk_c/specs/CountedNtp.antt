@@ -11,6 +11,7 @@ use Rattle.tk_ntp.specs.declared.reply.Reply.{Reply}
 use Rattle.tk_ntp.specs.Advance.{IsAdvanced, second_time}
 use Rattle.tk_ntp.specs.Applied.{IsApplied, without_reply}
 use Rattle.tk_ntp.specs.Asked.{IsAnswered}
+use Rattle.tk_ntp.specs.Late.{IsAdvancedLate}
 use Rattle.tk_ntp.specs.SteeredClock.{reading_refusal}
 use Rattle.tk_c.specs.declared.counted_ntp.CountedNtp.{CountedNtp}
 use Rattle.tk_c.specs.declared.timex.KernelTimex.{KernelTimex}
@@ -33,6 +34,14 @@ abbrev pub IsAdvancedTo : CountedNtp → ℕ → ℕ → CountedNtp → Type 0
 IsAdvancedTo old reading code new =
     MatchOption (first_of (full_refusal old.front) (reading_refusal reading old.steered))
     ((code ≡ number_of Done) × IsAdvanced reading old.steered new.steered
+    × (new.front ≡ old.front + 1))
+    (λ refusal. IsRefused refusal old code new)
+
+-- the code of an advance whose seconds begin late, and the clocks after it
+abbrev pub IsAdvancedLateTo : CountedNtp → ℕ → ℕ → CountedNtp → Type 0
+IsAdvancedLateTo old reading code new =
+    MatchOption (first_of (full_refusal old.front) (reading_refusal reading old.steered))
+    ((code ≡ number_of Done) × IsAdvancedLate reading old.steered new.steered
     × (new.front ≡ old.front + 1))
     (λ refusal. IsRefused refusal old code new)
 

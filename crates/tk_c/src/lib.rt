@@ -5,7 +5,7 @@
 //! |---|---|
 //! | `tkc_counter_*` | make counters from numbers or from a rate, store a counter's numbers, compute with its cycles |
 //! | `tkc_clock_*` | open the running clocks, apply commands, change the counter, return the frequency and the tick, convert clocks to and from words, with their counter or without |
-//! | `tkc_snapshot_*` | read one time or a list of times, find the reading of a time, return a snapshot's numbers, convert snapshots to and from words |
+//! | `tkc_snapshot_*` | read one time or a list of times, find the reading of a time, return a clock's line and a snapshot's numbers, convert snapshots to and from words |
 //! | `tkc_ntp_*`, `tkc_adjtimex` | open steered clocks, advance them, apply commands, answer requests, convert them to and from words with their counter |
 //! | `tkc_version` | returns the archive's version |
 //! | `CountedClock` | the clocks with their count of commands, `struct tkc_clock` in C |
@@ -26,6 +26,7 @@ mod counted_ntp;
 mod counters;
 mod cycles;
 mod general_registers;
+mod lines;
 mod named;
 mod ntp;
 mod ntp_storage;
@@ -50,9 +51,10 @@ pub use counters::{
     tkc_snapshot_counter,
 };
 pub use cycles::{tkc_counter_gap, tkc_counter_nanos};
+pub use lines::tkc_snapshot_line;
 pub use ntp::{
-    tkc_adjtimex, tkc_ntp_advance, tkc_ntp_apply, tkc_ntp_next_second, tkc_ntp_open,
-    tkc_ntp_open_at, tkc_ntp_snapshot,
+    tkc_adjtimex, tkc_ntp_advance, tkc_ntp_advance_late, tkc_ntp_apply, tkc_ntp_next_second,
+    tkc_ntp_open, tkc_ntp_open_at, tkc_ntp_snapshot,
 };
 pub use ntp_storage::{DisciplineStorage, NtpStorage};
 pub use parts::{

@@ -5,7 +5,7 @@ ghost use Rattle.tk_clock.specs.declared.timespec.Timespec.{Timespec};
 ghost use Rattle.tk_ntp.specs.SteeredClock.{steered_refusal, steered_opened};
 ghost use Rattle.tk_ntp.specs.Uptime.{steered_running_refusal, steered_running};
 ghost use Rattle.tk_c.specs.Codes.{number_of, code_of_refusal};
-ghost use Rattle.tk_c.specs.CountedNtp.{IsAdvancedTo, IsCommandCounted, IsNtpApplied, IsRequestCounted, IsNtpAnswered, IsNextSecond};
+ghost use Rattle.tk_c.specs.CountedNtp.{IsAdvancedTo, IsAdvancedLateTo, IsCommandCounted, IsNtpApplied, IsRequestCounted, IsNtpAnswered, IsNextSecond};
 ghost use Rattle.tk_c.specs.declared.code.Code.TheVariants.{Done};
 ghost use Rattle.tk_c.specs.Named.{command_named};
 ghost use Rattle.tk_c.specs.NtpStorage.{ntp_storage};
@@ -122,6 +122,23 @@ pub extern "C" fn tkc_ntp_advance(ntp: &mut CountedNtp, reading: u64) -> u32
         return Code::Full.number();
     }
     let called = ntp.steered.advance(reading);
+    count(&mut ntp.front, called)
+}
+
+/// Lets each second of REALTIME up to a reading begin late, with all commands of the clocks at the
+/// reading, and counts the call (`SteeredClock::advance_late`).
+///
+/// # Errors
+///
+/// Returns the codes of `tkc_ntp_advance`. Nothing changes then.
+#[unsafe(no_mangle)]
+pub extern "C" fn tkc_ntp_advance_late(ntp: &mut CountedNtp, reading: u64) -> u32
+    ensures { IsAdvancedLateTo ntp.old reading result ntp.new }
+{
+    if ntp.front >= COUNTED_LIMIT {
+        return Code::Full.number();
+    }
+    let called = ntp.steered.advance_late(reading);
     count(&mut ntp.front, called)
 }
 

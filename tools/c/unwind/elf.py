@@ -1,26 +1,23 @@
 # SPDX-License-Identifier: MIT OR Apache-2.0
-"""Reads what the paths through a function need of an object file of x86-64: its sections, its
-functions, its instructions and its jump tables."""
+"""Reads what the paths through a function need of an object file of x86-64 or AArch64: its sections,
+its functions, its instructions and its jump tables."""
 import re
 import struct
 import subprocess
 from collections import namedtuple
 
+import aarch64
+import x86_64
+from state import Lost
+
 SYMBOL_TABLE, RELOCATIONS, NO_BYTES = 2, 4, 8
 FUNCTION = 2
-PREFIXES = {"bnd", "notrack", "lock", "rep", "repz", "repnz", "data16", "cs", "ds", "es"}
+MACHINES = {it.NUMBER: it for it in (x86_64, aarch64)}
 
 # `relocations`: by the offset at which they apply, (section, offset), all of them pc-relative.
 Section = namedtuple("Section", "name content relocations")
 # `section`: its index. `start` and `end`: offsets in it.
 Function = namedtuple("Function", "name section start end")
-# `target`: the offset that a direct jump names. `place`: what `[rip + x]` refers to, as (section,
-# offset). `leaves`: the linker decides its target.
-Instruction = namedtuple("Instruction", "at end text mnemonic operands target place leaves")
-
-
-class Lost(Exception):
-    """What can't be followed."""
 
 
 class ObjectFile:
@@ -29,8 +26,11 @@ class ObjectFile:
     def __init__(self, path):
         with open(path, "rb") as stream:
             self.image = stream.read()
-        if self.image[:6] != b"\x7fELF\x02\x01" or self.image[16:20] != b"\x01\0\x3e\0":
-            raise Lost(f"{path} is no object file of x86-64")
+        if self.image[:6] != b"\x7fELF\x02\x01" or self.image[16:18] != b"\x01\0":
+            raise Lost(f"{path} is no object file of 64 bits")
+        self.machine = MACHINES.get(int.from_bytes(self.image[18:20], "little"))
+        if not self.machine:
+            raise Lost(f"{path} is no object file of x86-64 or AArch64")
         place, = struct.unpack_from("<Q", self.image, 0x28)
         size, count, names = struct.unpack_from("<HHH", self.image, 0x3A)
         headers = [struct.unpack_from("<IIQQQQIIQQ", self.image, place + size * i)
@@ -61,7 +61,7 @@ class ObjectFile:
 
     def disassembled(self, path):
         """The instructions of each section, by its index, in order."""
-        command = ["objdump", "-d", "-z", "-M", "intel", "--no-show-raw-insn", path]
+        command = [*self.machine.OBJDUMP, "-d", "-z", "--no-show-raw-insn", path]
         listing = subprocess.run(command, check=True, capture_output=True, text=True).stdout
         names = [section.name for section in self.sections]
         lines = {}
@@ -71,24 +71,10 @@ class ObjectFile:
                 lines[section] = []
             elif match := re.match(r" *([0-9a-f]+):\t(.*)", line):
                 lines[section].append((int(match[1], 16), match[2].strip()))
-        return {section: [self.instruction(section, at, end, text) for (at, text), (end, _) in
+        return {section: [self.machine.instruction(section, self.sections[section].relocations, at,
+                                                   end, text) for (at, text), (end, _) in
                           zip(found, found[1:] + [(len(self.sections[section].content), "")])]
                 for section, found in lines.items()}
-
-    def instruction(self, section, at, end, text):
-        words = re.split("[#<]", text)[0].split()
-        while len(words) > 1 and words[0] in PREFIXES:
-            words.pop(0)
-        operands = " ".join(words[1:])
-        target = int(operands, 16) if re.fullmatch("[0-9a-f]+", operands) else None
-        relocations = self.sections[section].relocations
-        moved = next((at for at in range(at + 1, end) if at in relocations), None)
-        place = None
-        if match := re.search(r"\[rip[+-]0x[0-9a-f]+\] +# ([0-9a-f]+)", text):
-            place = (section, int(match[1], 16))
-            if moved:
-                place = (relocations[moved][0], relocations[moved][1] + end - moved)
-        return Instruction(at, end, text, words[0], operands, target, place, bool(moved))
 
     def code(self, function):
         """The instructions of a function, by their offsets. Its jump tables may follow them."""

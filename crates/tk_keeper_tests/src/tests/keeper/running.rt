@@ -2,6 +2,7 @@ use super::{
     ASLEEP_WORDS, AWAKE_WORDS, FASTER_WORDS, answers, assert_same, has_no_front, length_and_words,
     reads_monotonic, steered, time, words_at,
 };
+use std::alloc::Allocator;
 use std::process::Abort;
 use tk_clock::ClockId::Monotonic;
 use tk_clock::Command::{Freq, Resume, SetTime, Suspend, Tick, Update};
@@ -17,6 +18,12 @@ fn clocks(rt: &impl Abort, words: [u64; SNAPSHOT_WORDS], frequency: i64) -> Cloc
     let desc = nanosecond_counter().expect(rt, "a counter");
     let snapshot = Snapshot::from_words(desc, words).expect(rt, "a snapshot");
     Clock::from_snapshot(snapshot, frequency, 10_000).expect(rt, "running clocks")
+}
+
+/// Returns the words of the clocks that a keeper was opened for, at their front.
+fn given_words<A: Allocator + Copy>(keeper: &Timekeeper<A>) -> Option<[u64; SNAPSHOT_WORDS]> {
+    let given = keeper.given()?;
+    Some(given.clock.snapshot(given.front).words())
 }
 
 #[test]
@@ -36,6 +43,28 @@ fn clocks_that_run_go_on_under_their_front(rt: HostRuntime) {
     assert_same(&rt, &keeper.entry(701).is_some(), &true);
     let traced = keeper.trace(&[701, 700, 699], &[0, 9, 9], Monotonic);
     assert_same(&rt, &traced.err(), &Some(TraceError::Folded { index: 2 }));
+}
+
+#[test]
+fn a_keeper_states_the_clocks_that_it_was_opened_for(rt: HostRuntime) {
+    let desc = nanosecond_counter().expect(&rt, "a counter");
+    let opened = Timekeeper::open(rt.alloc(), desc, 0, OPENED_TIME).expect(&rt, "a keeper");
+    assert_same(&rt, &given_words(&opened), &None);
+
+    let clock = clocks(&rt, FASTER_WORDS, 32_768_000);
+    let mut words = FASTER_WORDS;
+    words[0] = 700;
+    let mut keeper = Timekeeper::open_from(rt.alloc(), clock, 700).expect(&rt, "a keeper");
+    answers(&rt, &mut keeper, &[(1_000_000_000, Update, Ok(701))]);
+    assert_same(&rt, &given_words(&keeper), &Some(words));
+    assert_same(&rt, &keeper.fold(0), &701);
+    assert_same(&rt, &given_words(&keeper), &Some(words));
+    assert_same(
+        &rt,
+        &keeper.change_counter(1_000_000_000, desc, 5),
+        &Ok(702),
+    );
+    assert_same(&rt, &given_words(&keeper), &Some(words));
 }
 
 #[test]

@@ -286,6 +286,23 @@ fn many_reports_or_want_of_them(rt: HostRuntime) {
     }
 }
 
+/// `tests/harness/refuse_tests` runs it with each thread refused in turn, while the threads that
+/// were started are held.
+#[test]
+fn no_script_is_taken_after_a_thread_is_missing(rt: HostRuntime) -> Result<(), Fail> {
+    let scripts = copies(rt.alloc(), 8)?;
+    let gate = Notes::new();
+    let taken = match replay_all(rt.alloc(), &rt, scripts.as_slice(), 3, &gate) {
+        Ok(_) => 8,
+        Err(error) => {
+            assert_same(&rt, &error, &ManyError::Threads);
+            0
+        }
+    };
+    assert_called_once(&rt, &gate, taken, 3);
+    Ok(())
+}
+
 #[test]
 fn states_why_there_are_no_reports(rt: HostRuntime) -> Result<(), Fail> {
     let errors = [ManyError::Count, ManyError::Memory, ManyError::Threads];
