@@ -1,6 +1,7 @@
 // SPDX-License-Identifier: MIT OR Apache-2.0
-//! Links the C library: that of the folder `TKCORE_DIR`, or else the one that pkg-config finds.
-//! It links the archive if there is one, and otherwise the shared object.
+//! Chooses the C library: that of the folder `TKCORE_DIR`; or, if `TKCORE_PKG_CONFIG` is set, the
+//! one that pkg-config finds; or else the assembler text that the package contains. Of the first
+//! two it links the archive if there is one, and otherwise the shared object.
 
 use std::env;
 use std::error::Error;
@@ -9,23 +10,21 @@ use std::path::{Path, PathBuf};
 use std::process::Command;
 
 /// The versions of the library that have this crate's values and calls.
-const WANTED: &str = "0.2.";
+const WANTED: &str = "0.3.";
 
 fn main() -> Result<(), Box<dyn Error>> {
-    for name in ["DOCS_RS", "TKCORE_DIR", "PKG_CONFIG_PATH", "PKG_CONFIG_LIBDIR"] {
+    println!("cargo:rustc-check-cfg=cfg(tkcore_text)");
+    for name in ["TKCORE_DIR", "TKCORE_PKG_CONFIG", "PKG_CONFIG_PATH", "PKG_CONFIG_LIBDIR"] {
         println!("cargo:rerun-if-env-changed={name}");
     }
-    if env::var_os("DOCS_RS").is_some() {
-        return Ok(());
-    }
-    let (include, lib) = match env::var_os("TKCORE_DIR") {
-        Some(folder) => {
-            let folder = fs::canonicalize(&folder).map_err(|error| {
-                format!("TKCORE_DIR, {}: {error}", Path::new(&folder).display())
-            })?;
-            (folder.join("include"), folder.join("lib"))
-        }
-        None => (by_pkg_config("includedir")?, by_pkg_config("libdir")?),
+    let (include, lib) = if let Some(folder) = env::var_os("TKCORE_DIR") {
+        let folder = fs::canonicalize(&folder)
+            .map_err(|error| format!("TKCORE_DIR, {}: {error}", Path::new(&folder).display()))?;
+        (folder.join("include"), folder.join("lib"))
+    } else if env::var_os("TKCORE_PKG_CONFIG").is_some() {
+        (by_pkg_config("includedir")?, by_pkg_config("libdir")?)
+    } else {
+        return use_text();
     };
     require_version(&include)?;
     let kind = if lib.join("libtkcore.a").exists() { "static" } else { "dylib" };
@@ -33,6 +32,22 @@ fn main() -> Result<(), Box<dyn Error>> {
     println!("cargo:rustc-link-search=native={}", lib.display());
     println!("cargo:rustc-link-lib={kind}=tkcore");
     println!("cargo:include={}", include.display());
+    Ok(())
+}
+
+/// Lets `sys` include the text for the target: the package's, or that of the clone's release/.
+fn use_text() -> Result<(), Box<dyn Error>> {
+    let machine = env::var("CARGO_CFG_TARGET_ARCH")?;
+    let own = PathBuf::from(env::var("CARGO_MANIFEST_DIR")?);
+    let texts = [own.join("text").join(&machine), own.join("../../release").join(&machine)]
+        .map(|it| it.join("tkcore.s"));
+    let text = texts
+        .iter()
+        .find(|it| it.exists())
+        .ok_or_else(|| format!("TKCORE_DIR isn't set, and there is no text for {machine}"))?;
+    println!("cargo:rerun-if-changed={}", text.display());
+    println!("cargo:rustc-env=TKCORE_TEXT={}", text.display());
+    println!("cargo:rustc-cfg=tkcore_text");
     Ok(())
 }
 
@@ -44,7 +59,7 @@ fn by_pkg_config(variable: &str) -> Result<PathBuf, Box<dyn Error>> {
         Ok(output) if output.status.success() => {
             Ok(PathBuf::from(String::from_utf8(output.stdout)?.trim()))
         }
-        _ => Err("TKCORE_DIR isn't set, and pkg-config finds no tkcore".into()),
+        _ => Err("pkg-config finds no tkcore".into()),
     }
 }
 

@@ -29,6 +29,10 @@ TYPES = {
 }
 
 
+# Calls for programs in C, which compute with what they store.
+IN_C_ALONE = {"tkc_snapshot_line"}
+
+
 def type_of(declared):
     """Returns what a declaration in C is: whether a pointer, whether to constants, and the type."""
     declared = re.sub(r"(\w+)\[\w*\]", r"*\1", declared)
@@ -46,7 +50,8 @@ def header(include):
     calls = {}
     for result, name, arguments in re.findall(r"([\w ]+?)\s+(tkc_\w+)\(([^)]*)\);", text):
         given = [] if arguments == "void" else arguments.split(",")
-        calls[name] = type_of(result.replace("extern ", "").strip()), [*map(type_of, given)]
+        if name not in IN_C_ALONE:
+            calls[name] = type_of(result.replace("extern ", "").strip()), [*map(type_of, given)]
     sizes = dict(re.findall(r"(struct tkc_\w+) \{ \w+ tkc_private\[(\d+)\]; \};",
                             re.sub(r"\s+", " ", text)))
     return calls, sizes

@@ -81,13 +81,13 @@ def a_scheduler(work):
                                        cwd=work)
             ended.callback(started.wait)
             ended.callback(started.terminate)
-        for _ in range(600):
+        for _ in range(2400):
             if Path(file).exists():
                 break
             time.sleep(0.05)
         address = json.loads(Path(file).read_text(encoding="utf-8"))["address"]
         with Client(address) as client:
-            client.wait_for_workers(2, timeout=60)
+            client.wait_for_workers(2, timeout=120)
         yield address
 
 

@@ -58,7 +58,7 @@ def a_daemon():
     with subprocess.Popen(["lttng-sessiond", "--no-kernel"], stdout=subprocess.DEVNULL,
                           stderr=subprocess.DEVNULL) as daemon:
         try:
-            for _ in range(200):
+            for _ in range(1200):
                 if lttng("list", status=None):
                     break
                 time.sleep(0.05)

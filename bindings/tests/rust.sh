@@ -45,8 +45,7 @@ check_rust_memory() {
     done
 }
 
-# What Cargo.toml and docs/RUST.md say of the crate: no dependency, no std, unsafe code only in sys,
-# and a package that cargo builds from its own files.
+# What Cargo.toml and docs/RUST.md say of the crate: no dependency, no std, unsafe code only in sys.
 check_crate() {
     local code=$top/bindings/rust
     [ "$(grep -c '^name' "$code/Cargo.lock")" = 1 ] || fail "the Rust crate has a dependency"
@@ -62,8 +61,6 @@ check_crate() {
     cc "$work/no_std.c" "$work/no_std.a" -o "$work/no_std" ||
         fail "the Rust crate needs symbols of std"
     "$work/no_std" || fail "a program without std got another time"
-    (cd "$code" && cargo package -q --offline --allow-dirty >"$work/cargo" 2>&1) ||
-        { cat "$work/cargo" && fail "cargo makes no package of the Rust crate"; }
 }
 
 # PROGRAM LIBRARY: builds deaths.rs over the crate that cargo built

@@ -46,6 +46,7 @@ class Arguments:
             lambda: (tkcore.SteeredClock, self.steered.counter, near(), some(), number()),
             lambda: (tkcore.SteeredClock.load, self.saved()),
             lambda: (self.steered.advance, near()),
+            lambda: (self.steered.advance_late, near()),
             lambda: (self.steered.apply, near(), number(), some(), some()),
             lambda: (self.steered.step, near(), some()),
             lambda: (self.steered.leap, near(), rng.choice([-1, 1, some()]), number()),

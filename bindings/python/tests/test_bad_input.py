@@ -224,9 +224,9 @@ class Versions(unittest.TestCase):
         with tempfile.TemporaryDirectory() as folder:
             source, library = Path(folder, "other.c"), Path(folder, "other.so")
             for text, reason in (
-                    (OTHER.format(0x300, 0x300), "the version of .* is 0.3.0 instead of 0.2.0 to"),
-                    (OTHER.format(0x200, 0x300), "the version of the headers of .* is 0.3.0 in"),
-                    (OTHER.format(0x200, 0x200), r"the list of sizes and layouts of .* is \[0, 0"),
+                    (OTHER.format(0x200, 0x200), "the version of .* is 0.2.0 instead of 0.3.0 to"),
+                    (OTHER.format(0x300, 0x200), "the version of the headers of .* is 0.2.0 in"),
+                    (OTHER.format(0x300, 0x300), r"the list of sizes and layouts of .* is \[0, 0"),
                     ("int nothing;", ".* isn't the shared object of this package")):
                 source.write_text(text)
                 subprocess.run(["cc", "-shared", "-fPIC", source, "-o", library], check=True)

@@ -18,7 +18,7 @@ sys.path.insert(0, str(ROOT / "tests" / "c"))
 import compare_ntp
 
 TABLES = ["fresh", "frequencies", "pll", "fll", "microseconds", "adjtime", "inserted", "deleted",
-          "set", "errors", "steps", "ticks"]
+          "set", "errors", "steps", "ticks", "late", "inserted_late", "late_refused"]
 NAMES = {name: getattr(tkcore, name.title().replace("_", "")) for name in
          ("ASLEEP", "AWAKE", "INVALID", "BEHIND", "RANGE", "FURTHER", "NEVER", "BAD_COMMAND")}
 
@@ -62,6 +62,10 @@ class Session:
 
     def advance(self, reading):
         self.clock.advance(reading)
+        return "ok"
+
+    def late(self, reading):
+        self.clock.advance_late(reading)
         return "ok"
 
     def apply(self, reading, *numbers):
@@ -223,8 +227,25 @@ class Arguments(unittest.TestCase):
                 copy.copy(self.clock).advance(reading)
             self.assertEqual((raised.exception.value, raised.exception.range),
                              (reading, (1000, 10 + 2**31 - 1)))
+            with self.assertRaises(tkcore.Behind) as raised:
+                copy.copy(self.clock).advance_late(reading)
+            self.assertEqual(raised.exception.range, (1000, 10 + 2**31 - 1))
         for reading in (1000, 10 + 2**31 - 1):
             copy.copy(self.clock).advance(reading)
+            copy.copy(self.clock).advance_late(reading)
+
+    def test_late_seconds(self):
+        """At the reading of `advance_late`, the former snapshot gives the same MONOTONIC, and that
+        of `advance` more: the rate of the second that began at 1 s is lower."""
+        offset = Timex(Mode.OFFSET | Mode.STATUS, offset=-100_000, status=Status.PLL)
+        self.clock.adjtimex(0, offset)
+        before, late, early = self.clock.snapshot(), copy.copy(self.clock), copy.copy(self.clock)
+        late.advance_late(1_500_000)
+        early.advance(1_500_000)
+        monotonic = tkcore.ClockId.MONOTONIC
+        self.assertEqual(late.snapshot().get(1_500_000, monotonic), 1_500_000_000)
+        self.assertEqual(before.get(1_500_000, monotonic), 1_500_000_000)
+        self.assertLess(early.snapshot().get(1_500_000, monotonic), 1_500_000_000)
 
     def test_commands(self):
         self.clock.suspend(5)

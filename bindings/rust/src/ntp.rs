@@ -224,6 +224,34 @@ impl SteeredClock {
         sys::ntp_advance(&mut self.value, reading).map_err(Refusal::of_code)
     }
 
+    /// Lets each second of REALTIME up to a reading begin, with all commands of the clocks at this
+    /// reading (`tkc_ntp_advance_late` of tkcore.h).
+    ///
+    /// So MONOTONIC doesn't go back for reads up to the reading that use a former snapshot. If
+    /// others read snapshots, make this call before each other call, at the same reading.
+    ///
+    /// # Errors
+    ///
+    /// The errors of [`advance`](SteeredClock::advance). Nothing has changed then.
+    ///
+    /// ```
+    /// # use tkcore::{mode, status, ClockId, Counter, Refusal, SteeredClock, Timespec, Timex};
+    /// # let counter = Counter::from_hz(64, 1_000_000_000, 600)?;
+    /// # let mut clock = SteeredClock::open(&counter, 0, Timespec::default(), 250)?;
+    /// # let offset = Timex { offset: -100_000, status: status::PLL, ..Timex::default() };
+    /// # let modes = mode::OFFSET | mode::STATUS;
+    /// # clock.adjtimex(0, &Timex { modes, ..offset }).expect("a reply");
+    /// let (former, reading) = (clock.snapshot(), 1_500_000_000);
+    /// clock.advance_late(reading)?;
+    /// let now = clock.snapshot().get(ClockId::Monotonic, reading)?;
+    /// assert_eq!(now, former.get(ClockId::Monotonic, reading)?);
+    /// # Ok::<(), Refusal>(())
+    /// ```
+    #[inline]
+    pub fn advance_late(&mut self, reading: u64) -> Result<(), Refusal> {
+        sys::ntp_advance_late(&mut self.value, reading).map_err(Refusal::of_code)
+    }
+
     /// Advances, and applies a command. `Freq` and `Tick` are requests to the discipline, and
     /// `SetTime` and `Step` clear it.
     ///

@@ -15,12 +15,12 @@ use crate::{ClockWords, Refusal, Timespec, SAVED_WORDS, WORDS};
 mod ntp;
 
 pub(crate) use ntp::{
-    adjtimex, ntp_advance, ntp_apply, ntp_load, ntp_next_second, ntp_open, ntp_open_at, ntp_save,
-    ntp_snapshot, NtpValue,
+    adjtimex, ntp_advance, ntp_advance_late, ntp_apply, ntp_load, ntp_next_second, ntp_open,
+    ntp_open_at, ntp_save, ntp_snapshot, NtpValue,
 };
 
 /// The version of the header that these declarations follow, as `TKC_VERSION`.
-const DECLARED_VERSION: u32 = 0x0000_0200; // 0.2.0
+const DECLARED_VERSION: u32 = 0x0000_0300; // 0.3.0
 
 /// `TKC_BAD_WORDS`
 const BAD_WORDS: u32 = 18;
@@ -42,6 +42,12 @@ pub(crate) struct SnapshotValue([u64; 11]);
 
 // (a Timespec has the layout of `struct tkc_time`, whose last field is its padding)
 const _: () = assert!(size_of::<Timespec>() == 16 && align_of::<Timespec>() == 8);
+
+// The library's text, unless build.rs links another one. `.text` is where the compiler goes on.
+#[cfg(all(tkcore_text, target_arch = "x86_64"))]
+core::arch::global_asm!(include_str!(env!("TKCORE_TEXT")), ".text", options(att_syntax, raw));
+#[cfg(all(tkcore_text, target_arch = "aarch64"))]
+core::arch::global_asm!(include_str!(env!("TKCORE_TEXT")), ".text", options(raw));
 
 extern "C" {
     fn tkc_version() -> u32;

@@ -68,7 +68,14 @@ fn ask(clock: &mut SteeredClock, n: &[i128]) -> Result<String, Refusal> {
 }
 
 fn get(clock: &mut SteeredClock, n: &[i128]) -> Result<String, Refusal> {
-    let id = if n[0] == 11 { ClockId::Tai } else { ClockId::Realtime };
+    let id = match n[0] {
+        0 => ClockId::Realtime,
+        1 => ClockId::Monotonic,
+        id => {
+            assert_eq!(id, 11);
+            ClockId::Tai
+        }
+    };
     clock.advance(n[1] as u64)?;
     let time = clock.snapshot().get(id, n[1] as u64)?;
     Ok(format!("at,{}.{:09}", time.sec, time.nsec))
@@ -85,14 +92,28 @@ fn answer(clock: &mut Option<SteeredClock>, record: &str) -> Result<String, Refu
         return Ok("open".to_string());
     }
     let clock = clock.as_mut().expect("clocks");
+    let done = |()| "ok".to_string();
     match word {
         "adjtimex" => ask(clock, &n),
         "get" => get(clock, &n),
+        "next" => clock.next_second().map(|reading| format!("next,{reading}")),
+        "advance" => clock.advance(n[0] as u64).map(done),
+        "late" => clock.advance_late(n[0] as u64).map(done),
         _ => {
-            assert_eq!((word, n[1]), ("apply", 1));
-            let time = Timespec { sec: n[2] as i64, nsec: n[3] as u32 };
-            clock.apply(n[0] as u64, Command::SetTime(time))?;
-            Ok("ok".to_string())
+            assert_eq!(word, "apply");
+            clock.apply(n[0] as u64, command(&n)).map(done)
+        }
+    }
+}
+
+fn command(n: &[i128]) -> Command {
+    let time = Timespec { sec: n[2] as i64, nsec: n[3] as u32 };
+    match n[1] {
+        1 => Command::SetTime(time),
+        6 => Command::Suspend,
+        number => {
+            assert_eq!(number, 7);
+            Command::Resume(time)
         }
     }
 }
@@ -100,7 +121,7 @@ fn answer(clock: &mut Option<SteeredClock>, record: &str) -> Result<String, Refu
 #[test]
 fn worked_rows() {
     let rows = rows();
-    assert_eq!(rows.len(), 90);
+    assert_eq!(rows.len(), 126);
     let mut clock = None;
     for (record, wanted) in rows {
         let found = answer(&mut clock, &record).unwrap_or_else(name);
@@ -243,8 +264,9 @@ fn any_call() {
         // (at most half of the counter's range, and often in a row)
         let near = (clock.snapshot().words()[1] + random.below(1 << 30)) & 0xffff_ffff;
         let reading = if random.below(4) == 0 { random.some() } else { near };
-        accepted += u64::from(match random.below(6) {
+        accepted += u64::from(match random.below(7) {
             0 => clock.advance(reading).is_ok(),
+            6 => clock.advance_late(reading).is_ok(),
             1 | 2 => clock.apply(reading, some_command(&mut random)).is_ok(),
             3 => clock.next_second().is_ok(),
             4 => SteeredClock::open(&counter, reading, random.time(), random.some() as u32).is_ok(),

@@ -13,7 +13,7 @@ from typing import Any, Optional, Tuple, Type
 
 from .errors import BY_CODE, Error, OtherVersion
 
-VERSION = "0.2.0"
+VERSION = "0.3.0"
 WORDS, SAVED_WORDS, NTP_SAVED_WORDS = 10, 15, 33
 NANOS = 10**9
 U32 = (0, 2**32 - 1)
@@ -109,6 +109,7 @@ _CALLS = {
     "tkc_ntp_open_at": (c_uint32, [_NTP, _COUNTER, c_uint64, c_int64, c_uint32, c_int64, c_uint32,
                                    c_uint32]),
     "tkc_ntp_advance": (c_uint32, [_NTP, c_uint64]),
+    "tkc_ntp_advance_late": (c_uint32, [_NTP, c_uint64]),
     "tkc_ntp_apply": (c_uint32, [_NTP, c_uint64, c_uint32, c_int64, c_uint32]),
     "tkc_adjtimex": (c_uint32, [POINTER(TimexValue), _NUMBER, _NTP, c_uint64]),
     "tkc_ntp_next_second": (c_uint32, [_WORDS, _NTP]),

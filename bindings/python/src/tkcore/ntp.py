@@ -125,7 +125,7 @@ class SteeredClock(Commanded):
     of REALTIME up to this reading begin, each at its own reading, with its leap second and its
     rate. A refused command or step leaves clocks that have only advanced. FREQ and TICK are
     requests to the discipline. `update` the clocks at least once in each half of the counter's
-    range.
+    range. If others read snapshots meanwhile, call `advance_late` first, at the same reading.
 
     Don't let two threads use one SteeredClock without a lock. A Snapshot may be shared.
 
@@ -183,6 +183,17 @@ class SteeredClock(Commanded):
         request with modes. Nothing has changed then.
         """
         code = CALLS.tkc_ntp_advance(byref(self._value), self._reading(reading))
+        if code:
+            self._refuse_call(code, reading)
+
+    def advance_late(self, reading: int) -> None:
+        """Lets each second of REALTIME up to a reading begin, with all commands of the clocks at
+        this reading (`tkc_ntp_advance_late` of tkcore.h).
+
+        So MONOTONIC doesn't go back for reads up to the reading that use a former snapshot. Raises
+        what `advance` raises, and nothing has changed then.
+        """
+        code = CALLS.tkc_ntp_advance_late(byref(self._value), self._reading(reading))
         if code:
             self._refuse_call(code, reading)
 

@@ -56,6 +56,7 @@ extern "C" {
         hz: u32,
     ) -> u32;
     fn tkc_ntp_advance(ntp: *mut NtpValue, reading: u64) -> u32;
+    fn tkc_ntp_advance_late(ntp: *mut NtpValue, reading: u64) -> u32;
     fn tkc_ntp_apply(ntp: *mut NtpValue, reading: u64, command: u32, number: i64, nsec: u32)
         -> u32;
     fn tkc_adjtimex(
@@ -107,6 +108,12 @@ pub(crate) fn ntp_open_at(
 pub(crate) fn ntp_advance(ntp: &mut NtpValue, reading: u64) -> Result<(), u32> {
     // SAFETY: the clocks are a value, and nobody else has them.
     done(unsafe { tkc_ntp_advance(ntp, reading) })
+}
+
+#[inline]
+pub(crate) fn ntp_advance_late(ntp: &mut NtpValue, reading: u64) -> Result<(), u32> {
+    // SAFETY: the clocks are a value, and nobody else has them.
+    done(unsafe { tkc_ntp_advance_late(ntp, reading) })
 }
 
 #[inline]
