@@ -1,0 +1,112 @@
+"""Makes the parts of release/ from the proofs: the texts of the library and of the program, and the
+library's modules."""
+import gzip
+import pathlib
+import subprocess
+import tempfile
+
+import rattle
+
+from . import manifest
+
+MACHINES = ("x86_64", "aarch64")
+TOOLS = ("c/text", "c/placed.py", "c/unwind/*.py", "release_text/*.py")  # what shapes a text
+LINKING = ("c/module",)  # what shapes a module
+COMPILERS = ("bin/rattle", "toolchain/bin/clang", "toolchain/bin/llvm-ar")
+PROGRAM = "x86_64/program.s.gz"
+
+
+class Failed(Exception):
+    """What a part wasn't made for."""
+
+
+def run(*command):
+    ran = subprocess.run(command, capture_output=True, check=False)
+    if ran.returncode:
+        raise Failed(f"{command[0]} failed:\n{ran.stderr.decode(errors='replace').strip()}")
+    return ran.stdout
+
+
+def sources(crates, tools=TOOLS):
+    """Returns a line with the sum of all sums of what a text is made from."""
+    top = rattle.ROOT
+    found = [it for crate in crates for part in rattle.PARTS
+             for it in (crate.folder / part).rglob("*") if it.is_file()]
+    found += [it for name in tools for it in (top / "tools").glob(name)]
+    lines = sorted(manifest.line_of(it, it.relative_to(top).as_posix()) for it in found)
+    total = manifest.sum_of("".join(f"{line}\n" for line in lines).encode())
+    return f"sources: {total} of {len(lines)} files"
+
+
+def verdict_of(crate, status, said):
+    """Returns the line of the verdict in what a build printed."""
+    if status:
+        raise Failed(f"{crate.name} isn't built:\n{said}")
+    return rattle.verdict_in(said)
+
+
+def begun(crate, libraries, tools=TOOLS, maker=("gas", "as")):
+    """Proves the crates below one. Returns the first lines of its part."""
+    if not rattle.build_all(crate.below, libraries):
+        raise Failed(f"not all crates below {crate.name} are proved")
+    if unknown := [it.name for it in crate.below if not it.verdict(libraries).exists()]:
+        raise Failed(f"{libraries} has no verdicts of {' '.join(unknown)}")
+    kit = [manifest.line_of(rattle.kit() / name, f"KIT/{name}") for name in COMPILERS]
+    verdicts = [f"{it.name}: {it.verdict(libraries).read_text(encoding='utf-8').strip()}"
+                for it in crate.below]
+    name, program = maker
+    version = run(program, "--version").decode().splitlines()[0]
+    return [f"kit: {rattle.rt('version')}", *kit, f"{name}: {version}",
+            sources([*crate.below, crate], tools), *verdicts]
+
+
+def library(libraries, out):
+    """Writes the library's text for each machine, and returns the lines of its part."""
+    crate = rattle.crates()["tk_c"]
+    lines, texts = begun(crate, libraries), []
+    for machine in MACHINES:
+        text = out / machine / "tkcore.s"
+        text.parent.mkdir(parents=True, exist_ok=True)
+        with tempfile.TemporaryDirectory() as room:
+            archive = pathlib.Path(room, "libtk_c.a")
+            verdict = verdict_of(crate, *crate.archive(
+                libraries, "llvm", f"{machine}-unknown-linux-gnu", archive))
+            run(rattle.ROOT / "tools" / "c" / "text", archive, machine, text)
+        lines.append(f"{crate.name}: {verdict}")
+        texts.append(manifest.line_of(text, f"{machine}/{text.name}"))
+    return lines + texts
+
+
+def program(libraries, out):
+    """Writes the program's text, compressed, and returns the lines of its part.
+
+    It is compiled for the first x86-64, so that it needs no test of the processor.
+    """
+    crate = rattle.crates()["tkcore"]
+    lines = begun(crate, libraries)
+    with tempfile.TemporaryDirectory() as room:
+        made = pathlib.Path(room, "tkcore.o")
+        built = crate.run("build", libraries, f"--toolchain={rattle.kit() / 'toolchain'}",
+                          "--cpu=x86-64", f"-o={made}")
+        lines.append(f"{crate.name}: {verdict_of(crate, *built)}")
+        text = run("python3", "-B", rattle.ROOT / "tools" / "release_text", made)
+    packed = out / PROGRAM
+    packed.parent.mkdir(parents=True, exist_ok=True)
+    packed.write_bytes(gzip.compress(text, 9, mtime=0))
+    return [*lines, manifest.line_of(packed, PROGRAM)]
+
+
+def module(libraries, out):
+    """Writes the library's modules, and returns the lines of their part."""
+    crate = rattle.crates()["tk_c"]
+    lines = begun(crate, libraries, LINKING, ("binaryen", "wasm-opt"))
+    with tempfile.TemporaryDirectory() as room:
+        archive = pathlib.Path(room, "libtk_c.a")
+        built = crate.archive(libraries, "llvm", "wasm64-unknown-unknown", archive)
+        lines.append(f"{crate.name}: {verdict_of(crate, *built)}")
+        run(rattle.ROOT / "tools" / "c" / "module", archive, out)
+    names = [f"{machine}/tkcore.wasm" for machine in ("wasm64", "wasm32")]
+    return lines + [manifest.line_of(out / name, name) for name in names]
+
+
+PARTS = {"library": library, "program": program, "module": module}
