@@ -1,0 +1,161 @@
+// SPDX-License-Identifier: GPL-2.0
+/*
+ * kernel/time/ntp.c and kernel/time/timekeeping.c in a process: the unmodified ones, or those with
+ * the port. Each call takes the reading of the counter at which it is made (process.py).
+ */
+#include "process.h"
+#include <linux/ktime.h>
+
+#include "kernel/time/ntp.c"
+#include "kernel/time/timekeeping.c"
+
+static u64 now, slept;
+
+static u64 read_counter(struct clocksource *clock)
+{
+	return now & clock->mask;
+}
+
+/* The readings of the other counter, OTHER cycles ahead. */
+static u64 read_other(struct clocksource *clock)
+{
+	return (now + OTHER) & clock->mask;
+}
+
+static struct clocksource counters[2] = { { .read = read_counter }, { .read = read_other } };
+
+int kernel_warnings;
+u64 jiffies_64;
+struct timezone sys_tz;
+
+struct clocksource *clocksource_default_clock(void)
+{
+	return &counters[0];
+}
+
+void clocksource_suspend(void)
+{
+}
+
+void clocksource_resume(void)
+{
+}
+
+void clocksource_start_suspend_timing(struct clocksource *clock, u64 start)
+{
+}
+
+u64 clocksource_stop_suspend_timing(struct clocksource *clock, u64 end)
+{
+	return slept;
+}
+
+void set_normalized_timespec64(struct timespec64 *out, time64_t sec, s64 nsec)
+{
+	s64 seconds = nsec / NSEC_PER_SEC - (nsec % NSEC_PER_SEC < 0);
+
+	out->tv_sec = sec + seconds;
+	out->tv_nsec = nsec - seconds * NSEC_PER_SEC;
+}
+
+struct timespec64 ns_to_timespec64(s64 nsec)
+{
+	struct timespec64 out;
+
+	set_normalized_timespec64(&out, 0, nsec);
+	return out;
+}
+
+static void describe(struct clocksource *counter, u32 bits, u32 mult, u32 shift)
+{
+	counter->mask = CLOCKSOURCE_MASK(bits);
+	counter->mult = mult;
+	counter->shift = shift;
+	counter->maxadj = mult / 100 * 11;
+	counter->max_idle_ns = ~0ULL;
+}
+
+void process_boot(u32 bits, u32 mult, u32 shift, u64 reading)
+{
+	describe(&counters[0], bits, mult, shift);
+	now = reading;
+	timekeeping_init();
+}
+
+/* Goes on with the other counter. */
+int process_switch(u32 bits, u32 mult, u32 shift, u64 reading)
+{
+	struct clocksource *to = &counters[tk_core.timekeeper.tkr_mono.clock == &counters[0]];
+
+	describe(to, bits, mult, shift);
+	now = reading;
+	return timekeeping_notify(to);
+}
+
+void process_tick(u64 reading)
+{
+	now = reading;
+	update_wall_time();
+}
+
+int process_adjtimex(void *timex, u64 reading)
+{
+	now = reading;
+	return do_adjtimex(timex);
+}
+
+int process_settime(s64 sec, s64 nsec, u64 reading)
+{
+	struct timespec64 time = { sec, nsec };
+
+	now = reading;
+	return do_settimeofday64(&time);
+}
+
+void process_suspend(u64 reading)
+{
+	now = reading;
+	timekeeping_suspend();
+}
+
+void process_resume(u64 ns, u64 reading)
+{
+	now = reading;
+	slept = ns;
+	timekeeping_resume();
+}
+
+/*
+ * Returns a clock's time in ns, by the number of clock_gettime(2); from 100 on by the reads for an
+ * NMI, and from 200 on its whole seconds at the last change.
+ */
+s64 process_time(u32 clock, u64 reading)
+{
+	now = reading;
+	switch (clock) {
+	case 0: return ktime_get_with_offset(TK_OFFS_REAL);
+	case 4: return ktime_get_raw();
+	case 5: return ktime_get_coarse_with_offset(TK_OFFS_REAL);
+	case 7: return ktime_get_with_offset(TK_OFFS_BOOT);
+	case 11: return ktime_get_with_offset(TK_OFFS_TAI);
+	case 100: return ktime_get_real_fast_ns();
+	case 101: return ktime_get_mono_fast_ns();
+	case 104: return ktime_get_raw_fast_ns();
+	case 200: return ktime_get_real_seconds();
+	case 201: return ktime_get_seconds();
+	default: return ktime_get();
+	}
+}
+
+#ifdef TKC_CONTROL	/* only the port */
+int process_status(void)
+{
+	return timekeeping_ntp_status();
+}
+
+/* Returns the MONOTONIC of the coming inserted second. */
+s64 process_leap(void)
+{
+	return tk_core.timekeeper.next_leap_ktime;
+}
+#endif

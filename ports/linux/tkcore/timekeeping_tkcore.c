@@ -1,0 +1,230 @@
+// SPDX-License-Identifier: GPL-2.0
+/*
+ * The changes of the clocks, as calls of the library. timekeeping.c includes this file at its end.
+ *
+ * What stays in timekeeping.c is its lock, its sequence counter and its latch, the readers, the
+ * readings of the clocksources, permissions, and notifications.
+ */
+#include "ntp_status.h"
+#include "line.h"
+#include "asked.h"
+#include "late.h"
+
+/*
+ * The beginning of a change. It returns the reading at which the change happens.
+ *
+ * The counter is read after the sequence is odd for all processors. The unmodified kernel reads it
+ * before: a reader that reads the counter in between, and finds the sequence even, counts these
+ * cycles at the old rate. Where the new rate is lower, a later read gives less, and MONOTONIC falls.
+ *
+ * A reading behind the last one is taken as the last one, as clocksource_delta() does. Clocksources
+ * may return more bits than their mask has, as jiffies do.
+ */
+static u64 tk_begin(unsigned long *flags)
+{
+	const struct tk_read_base *tkr = &tk_core.timekeeper.tkr_mono;
+	u64 now;
+
+	raw_spin_lock_irqsave(&timekeeper_lock, *flags);
+	write_seqcount_begin(&tk_core.seq);
+	smp_mb();
+	now = tk_clock_read(tkr) & tkr->mask;
+	if (((now - tkr->cycle_last) & tkr->mask) > tkr->mask >> 1)
+		now = tkr->cycle_last;
+	return now;
+}
+
+/*
+ * timekeeping_update - publishes tk_state (tkc_ntp_snapshot). Returns whether REALTIME or TAI was
+ * set.
+ */
+static bool timekeeping_update(struct timekeeper *tk, unsigned int action)
+{
+	u64 sec = tk->xtime_sec;
+
+	if (tk_fill(tk))
+		action |= TK_CLOCK_WAS_SET;
+	/* Only a second, a request or a command changes a leap or the status. */
+	if (action != TK_TICK || sec != tk->xtime_sec)
+		tk_ask(tk);
+	update_vsyscall(tk);
+	update_pvclock_gtod(tk, action & TK_CLOCK_WAS_SET);
+	update_fast_timekeeper(&tk->tkr_mono, &tk_fast_mono);
+	update_fast_timekeeper(&tk->tkr_raw, &tk_fast_raw);
+	if (action & TK_CLOCK_WAS_SET)
+		tk->clock_was_set_seq++;
+	return action & TK_CLOCK_WAS_SET;
+}
+
+/* The end of a change: publishes it. Returns whether REALTIME or TAI was set. */
+static bool tk_end(unsigned long flags, unsigned int action)
+{
+	bool was_set = timekeeping_update(&tk_core.timekeeper, action);
+
+	write_seqcount_end(&tk_core.seq);
+	raw_spin_unlock_irqrestore(&timekeeper_lock, flags);
+	return was_set;
+}
+
+/* Applies a command (tkc_ntp_apply), after the seconds up to its reading have begun. */
+static enum tkc_code tk_command(u64 now, u32 command, s64 sec, u32 nsec)
+{
+	enum tkc_code code = tk_forward(now);
+
+	return code ?: TK_SSE(tkc_ntp_apply(&tk_state, now, command, sec, nsec));
+}
+
+#include "clocksource.h"
+
+/* do_settimeofday64 - sets REALTIME (TKC_CMD_SET_TIME) */
+int do_settimeofday64(const struct timespec64 *ts)
+{
+	struct timekeeper *tk = &tk_core.timekeeper;
+	enum tkc_code code;
+	unsigned long flags;
+	ktime_t before;
+	u64 now;
+
+	if (!timespec64_valid_settod(ts))
+		return -EINVAL;
+	now = tk_begin(&flags);
+	before = tk->offs_real;
+	code = tk_command(now, TKC_CMD_SET_TIME, ts->tv_sec, ts->tv_nsec);
+	tk_end(flags, TK_CLOCK_WAS_SET);
+	clock_was_set(CLOCK_SET_WALL);
+	if (!code) {
+		audit_tk_injoffset(ktime_to_timespec64(ktime_sub(tk->offs_real, before)));
+		add_device_randomness(ts, sizeof(*ts));
+	}
+	return tk_errno(code);
+}
+EXPORT_SYMBOL(do_settimeofday64);
+
+/* timekeeping_inject_offset - moves REALTIME (TKC_CMD_STEP) */
+static int timekeeping_inject_offset(const struct timespec64 *ts)
+{
+	enum tkc_code code;
+	unsigned long flags;
+	u64 now;
+
+	if (ts->tv_nsec < 0 || ts->tv_nsec >= NSEC_PER_SEC)
+		return -EINVAL;
+	now = tk_begin(&flags);
+	code = tk_command(now, TKC_CMD_STEP, ts->tv_sec, ts->tv_nsec);
+	tk_end(flags, TK_CLOCK_WAS_SET);
+	clock_was_set(CLOCK_SET_WALL);
+	return tk_errno(code);
+}
+
+/* timekeeping_max_deferment - how long a tick may be left out: half of what a reader can convert */
+u64 timekeeping_max_deferment(void)
+{
+	const struct tk_read_base *tkr = &tk_core.timekeeper.tkr_mono;
+	unsigned int seq;
+	u64 most;
+
+	do {
+		seq = read_seqcount_begin(&tk_core.seq);
+		most = min(tkr->clock->max_idle_ns, U64_MAX >> (tkr->shift + 1));
+	} while (read_seqcount_retry(&tk_core.seq, seq));
+	return most;
+}
+
+/* Reads the persistent clock: REALTIME, and the time since the boot, which is never more. */
+static void __init tk_read_boot_times(struct timespec64 *wall, struct timespec64 *boot)
+{
+	read_persistent_wall_and_boot_offset(wall, boot);
+	if (!timespec64_valid_settod(wall)) {
+		pr_warn("timekeeping: the persistent clock's time is out of range\n");
+		*wall = (struct timespec64){};
+	}
+	persistent_clock_exists = wall->tv_sec || wall->tv_nsec;
+	if (timespec64_compare(wall, boot) < 0)
+		*boot = (struct timespec64){};
+}
+
+/* timekeeping_init - opens the clocks on the clocksource of the boot (tkc_ntp_open_at) */
+void __init timekeeping_init(void)
+{
+	struct clocksource *clock = clocksource_default_clock();
+	struct timespec64 wall, boot;
+	struct tkc_counter counter;
+	unsigned long flags;
+
+	tk_read_boot_times(&wall, &boot);
+	tk_enable_sse();
+	raw_spin_lock_irqsave(&timekeeper_lock, flags);
+	write_seqcount_begin(&tk_core.seq);
+	ntp_init();
+	if (clock->enable)
+		clock->enable(clock);
+	tk_setup_internals(&tk_core.timekeeper, clock);
+	if (tk_counter(&counter, clock) ||
+	    TK_SSE(tkc_ntp_open_at(&tk_state, &counter, clock->read(clock) & clock->mask,
+				   wall.tv_sec, wall.tv_nsec, boot.tv_sec, boot.tv_nsec, HZ)))
+		panic("timekeeping: the clocks don't open\n");
+	tk_end(flags, TK_CLOCK_WAS_SET);
+}
+
+#include "sleep.h"
+
+/* Whether REALTIME may have reached its next second. Below 2^31 cycles, the sum is below 2^64. */
+static bool tk_is_second_due(const struct tk_read_base *tkr, u64 now)
+{
+	u64 cycles = (now - tkr->cycle_last) & tkr->mask;
+
+	return cycles >> 31 ||
+	       cycles * tkr->mult + tkr->xtime_nsec >= (u64)NSEC_PER_SEC << tkr->shift;
+}
+
+/*
+ * timekeeping_advance - a tick: brings the clocks forward with the seconds that are due. Returns
+ * whether a leap second was made. Most ticks leave out tkc_ntp_advance_late, since none is due.
+ */
+static bool timekeeping_advance(enum timekeeping_adv_mode mode)
+{
+	struct timekeeper *tk = &tk_core.timekeeper;
+	unsigned long flags;
+	u64 now;
+
+	if (timekeeping_suspended ||
+	    clocksource_delta(tk_clock_read(&tk->tkr_mono), tk->tkr_mono.cycle_last,
+			      tk->tkr_mono.mask) < tk->cycle_interval)
+		return false;
+	now = tk_begin(&flags);
+	if (tk_is_second_due(&tk->tkr_mono, now))
+		tk_forward(now);
+	else
+		tk_update(now);
+	return tk_end(flags, TK_TICK);
+}
+
+/* timekeeping_ntp_status - the status bits, for the synchronization of the RTC */
+int timekeeping_ntp_status(void)
+{
+	return READ_ONCE(tk_status);
+}
+
+/* do_adjtimex - answers a request of adjtimex(2) (tkc_adjtimex) */
+int do_adjtimex(struct __kernel_timex *txc)
+{
+	int state = timekeeping_validate_timex(txc);
+	enum tkc_code code;
+	unsigned long flags;
+	bool was_set;
+	u64 now;
+
+	BUILD_BUG_ON(sizeof(*txc) != sizeof(struct tkc_timex));
+	if (state)
+		return state;
+	add_device_randomness(txc, sizeof(*txc));
+	now = tk_begin(&flags);
+	code = tk_forward(now);
+	if (!code)
+		code = TK_SSE(tkc_adjtimex((struct tkc_timex *)txc, &state, &tk_state, now));
+	was_set = tk_end(flags, 0);
+	if (was_set)
+		clock_was_set(CLOCK_SET_WALL);
+	ntp_notify_cmos_timer();
+	return code ? tk_errno(code) : state;
+}
