@@ -1,0 +1,198 @@
+/* SPDX-License-Identifier: MIT OR Apache-2.0 */
+/*
+ * Opens the page in Chromium without a window, and compares it with the examples' stored reports.
+ *
+ *     node tests/web/browser.mjs CHROMIUM PAGE                  runs the tests
+ *     node tests/web/browser.mjs CHROMIUM PAGE PICTURE [HASH]   writes a picture of the page, a PNG
+ */
+import { spawn } from 'node:child_process';
+import fs from 'node:fs';
+import os from 'node:os';
+import path from 'node:path';
+import { fileURLToPath } from 'node:url';
+
+const DATA = fileURLToPath(new URL('../../crates/tk_examples/data/', import.meta.url));
+const MOST = 60000; // ms for a step that must happen
+
+/** A browser with one tab, over a pipe. */
+class Browser {
+    constructor(program) {
+        this.folder = fs.mkdtempSync(path.join(os.tmpdir(), 'page-'));
+        this.process = spawn(program, ['--headless', '--no-sandbox', '--disable-gpu',
+            '--no-first-run', '--remote-debugging-pipe', `--user-data-dir=${this.folder}`,
+            'about:blank'], { stdio: ['ignore', 'ignore', 'ignore', 'pipe', 'pipe'] });
+        this.waiting = new Map();
+        this.number = 0;
+        this.rest = '';
+        this.errors = [];
+        this.process.stdio[4].on('data', data => this.read(data.toString()));
+    }
+
+    read(text) {
+        const messages = (this.rest + text).split('\0');
+        this.rest = messages.pop();
+        for (const { id, method, params, result, error } of messages.map(it => JSON.parse(it))) {
+            this.waiting.get(id)?.(error ? { error } : result);
+            if (method === 'Runtime.exceptionThrown')
+                this.errors.push(params.exceptionDetails.exception?.description
+                    ?? params.exceptionDetails.text);
+        }
+    }
+
+    send(method, params = {}) {
+        const id = ++this.number, message = { id, method, params, sessionId: this.session };
+        return new Promise(done => {
+            this.waiting.set(id, done);
+            this.process.stdio[3].write(`${JSON.stringify(message)}\0`);
+        });
+    }
+
+    async open(url, width, height) {
+        const { targetInfos } = await this.send('Target.getTargets');
+        const { targetId } = targetInfos.find(it => it.type === 'page');
+        const { sessionId } = await this.send('Target.attachToTarget', { targetId, flatten: true });
+        this.session = sessionId;
+        await this.send('Runtime.enable');
+        await this.send('Emulation.setDeviceMetricsOverride',
+            { width, height, deviceScaleFactor: 1, mobile: false });
+        await this.send('Page.navigate', { url });
+        await this.until('document.getElementById("verdict")?.textContent.includes("records")');
+    }
+
+    async value(expression) {
+        const found = await this.send('Runtime.evaluate', { expression, awaitPromise: true,
+            returnByValue: true });
+        return found.result?.value;
+    }
+
+    /** Waits until an expression is true. */
+    async until(expression) {
+        for (const start = Date.now(); Date.now() - start < MOST;) {
+            if (await this.value(expression))
+                return;
+            await new Promise(done => setTimeout(done, 20));
+        }
+        throw new Error(`never: ${expression}; ${await this.value('document.body.innerText')}`);
+    }
+
+    /** Ends the browser, and removes its folder, which its processes may still write to a while. */
+    async close() {
+        const isEnded = new Promise(done => this.process.once('close', done));
+        this.process.kill();
+        await isEnded;
+        for (let i = 0; i < 50 && fs.existsSync(this.folder); i++) {
+            try {
+                fs.rmSync(this.folder, { recursive: true, force: true });
+            } catch {
+                await new Promise(done => setTimeout(done, 100));
+            }
+        }
+    }
+}
+
+const SETTLED = 'document.getElementById("verdict").textContent.trim() !== "running"';
+const ROWS = `[...document.querySelectorAll('#rows div')].map(it => it.textContent)`;
+const VERDICT = `document.getElementById('verdict').textContent.trim()`;
+
+function require(is, what) {
+    if (!is)
+        throw new Error(what);
+}
+
+async function runScript(browser, text) {
+    await browser.value(`{ const it = document.getElementById('script'); it.value = ${
+        JSON.stringify(text)}; it.dispatchEvent(new Event('input'));
+        document.getElementById('verdict').textContent = 'running'; 0 }`);
+    await browser.until(SETTLED);
+}
+
+/** The rows of a report: the line of a read that differs is in the row of the read. */
+function rowsOf(report) {
+    return report.trimEnd().replaceAll('\ndiffers,', '  differs,').split('\n');
+}
+
+/** Each row is beside its record: without quotes, a record is a line that isn't empty. */
+async function checkPlaces(browser, name, text) {
+    const lines = text.split('\n').flatMap((line, i) => line ? [i] : []);
+    const tops = await browser.value(
+        `[...document.querySelectorAll('#rows div')].map(it => parseInt(it.style.top) / 18)`);
+    require(text.includes('"') || JSON.stringify(tops) === JSON.stringify(lines),
+        `${name}: rows at ${tops}`);
+}
+
+async function checkExample(browser, name) {
+    await runScript(browser, fs.readFileSync(`${DATA}${name}.csv`, 'utf8'));
+    const report = `${DATA}${name}.report`, rows = await browser.value(ROWS);
+    if (!fs.existsSync(report)) {
+        const fault = fs.readFileSync(`${DATA}${name}.fault`, 'utf8').trim().replace('tkcore: ', '');
+        require(JSON.stringify(rows) === JSON.stringify([fault]), `${name}: ${rows}`);
+        return;
+    }
+    const wanted = rowsOf(fs.readFileSync(report, 'utf8'));
+    require(JSON.stringify(rows) === JSON.stringify(wanted), `${name}: ${rows.join('\n')}`);
+    await checkPlaces(browser, name, fs.readFileSync(`${DATA}${name}.csv`, 'utf8'));
+    const svg = await browser.value(`document.getElementById('plot').innerHTML`);
+    const paths = svg.match(/<path d="M[^"]*"/g) ?? [];
+    require(paths.length >= 2 && !svg.includes('NaN'), `${name}: ${paths.length} panels`);
+}
+
+/** The cursor after the last record reads the clocks as `get` does there. */
+async function checkCursor(browser) {
+    await runScript(browser, 'open,32,16777216,24,0,1700000000,0\nupdate,2000000000\n');
+    const right = `document.getElementById('plot').getBoundingClientRect()`;
+    await browser.value(`document.getElementById('plot').dispatchEvent(new PointerEvent('pointermove',
+        { clientX: ${right}.left + 76, clientY: ${right}.top + 100 })), 0`);
+    await browser.until(`document.getElementById('cursor').textContent.includes('reading')`);
+    const text = await browser.value(`document.getElementById('cursor').textContent`);
+    require(/^reading 0, after record 1\n/.test(text), `the cursor: ${text}`);
+    for (const words of ['realtime 1700000000.000000000 0 2023-11-14T22:13:20.000000000Z',
+        'monotonic 0.000000000 0', 'monotonic_raw 0.000000000'])
+        require(text.replace(/ +/g, ' ').includes(words), `the cursor: ${text}`);
+}
+
+/** A script that takes minutes is ended, and the page runs the next one. */
+async function checkLimit(browser) {
+    await runScript(browser, 'open,63,1000,4,4611686018427387903,1704067199,0,1\n'
+        + 'get,4626823298427387902,monotonic_raw\n');
+    require(await browser.value(VERDICT) === 'ended after 5 seconds', await browser.value(VERDICT));
+    const next = 'open,8,256,0,0,0,0\n\n\nupdate,1\n';
+    await runScript(browser, next);
+    require(await browser.value(VERDICT) === 'done 2 records, 0 refused',
+        await browser.value(VERDICT));
+    await checkPlaces(browser, 'empty lines', next);
+}
+
+async function check(browser, page) {
+    await browser.open(`file://${path.resolve(page)}`, 1440, 2400);
+    const names = fs.readdirSync(DATA).map(it => path.parse(it)).filter(({ name, ext }) =>
+        ext === '.report' || ext === '.fault' && !fs.existsSync(`${DATA}${name}.stamps`));
+    for (const { name } of names)
+        await checkExample(browser, name);
+    await checkCursor(browser);
+    await checkLimit(browser);
+    require(!browser.errors.length, browser.errors.join('\n'));
+    console.log(`${names.length} examples in ${path.basename(page)} have their reports and panels`);
+}
+
+async function takePicture(browser, page, picture, hash) {
+    await browser.open(`file://${path.resolve(page)}#${hash}`, 1200, 600);
+    await browser.value(`document.getElementById('plot').dispatchEvent(new PointerEvent('pointermove',
+        { clientX: 980, clientY: 300 })), 0`);
+    await browser.until(`document.getElementById('cursor').textContent.includes('reading')`);
+    const { data } = await browser.send('Page.captureScreenshot', { format: 'png' });
+    fs.writeFileSync(picture, Buffer.from(data, 'base64'));
+}
+
+const [program, page, picture, hash = ''] = process.argv.slice(2);
+const browser = new Browser(program);
+try {
+    if (picture)
+        await takePicture(browser, page, picture, hash);
+    else
+        await check(browser, page);
+} catch (error) {
+    console.error(`browser.mjs: ${error.message}`);
+    process.exitCode = 1;
+} finally {
+    await browser.close();
+}

@@ -1,0 +1,196 @@
+#!/usr/bin/env python3
+"""Compares the page's reports with tkcore's: those of the numbered examples, which are stored, and of
+random scripts, by the program or by the definitions in Python.
+
+    tests/web/compare.py MODULE [--program TKCORE] [--scripts N] [--seed SEED] [--node FLAG] [--long]
+
+With --long, the journal of steered clocks is filled too, which takes a minute.
+It stops at the first report, fault or status that differs, and at the first cursor of the page that
+shows other times than these reads in a script.
+"""
+import argparse
+import base64
+import json
+import pathlib
+import random
+import subprocess
+import sys
+
+TOP = pathlib.Path(__file__).resolve().parents[2]
+sys.path.insert(0, str(TOP / "tests" / "model"))
+
+# pylint: disable=wrong-import-position
+import compare
+import model
+
+DATA = TOP / "crates" / "tk_examples" / "data"
+OPEN = b"open,32,16777216,24,0,1700000000,0\n"
+# steered clocks whose mark is after the beginning of their next second, as no calls leave them
+MARKED = (b"openwords,32,3495253333,26,5,2597764268,3497000960,9033614093229567,29,1700000000865388708,0,0,"
+          b"9000682596261628,29,15,10005,100,8225,2,1,1700006399,0,4,16000000,10000,10000,2147483648000000,"
+          b"1700000031,0,0,1152921504607786901,16879380609053491200,1700000031,2632316711\n"
+          b"get,2761501322,monotonic\nadjtimex,2773395570,0,0,0,0,0,0,0,0,0,0\n")
+STEERED = b"open,64,8388608,23,0,1483228797,0,250\n"
+EDGES = [
+    MARKED,
+    # the greatest front, and one more
+    *(MARKED.replace(b",5,2597764268", b",%d,2597764268" % front) for front in (2**62, 2**62 + 1)),
+    # a cycle lasts two seconds, in which an offset gives each second another rate
+    b"open,8,2000000000,0,0,1700000000,0,250\nadjtimex,0,8209,500000000,0,0,0,1,0,0,0,0\n"
+    + b"".join(b"update,%d\n" % reading for reading in range(1, 40, 3)),
+    # steps at and past the bounds of their unit
+    STEERED + b"".join(b"adjtimex,1,%d,0,0,0,0,0,0,0,0,%d\n" % it for it in (
+        (256, 999_999), (256, 1_000_000), (256, -1), (8448, 999_999_999), (8448, 1_000_000_000))),
+]
+
+
+def answers(given, scripts):
+    """Returns the status, the output, the error and the cursors that the page has for each script."""
+    words = ["node", *given.node, str(TOP / "tests/web/reports.mjs"), given.module]
+    lines = b"".join(base64.b64encode(script) + b"\n" for script in scripts)
+    ran = subprocess.run(words, input=lines, capture_output=True, check=False)
+    if ran.returncode:
+        sys.exit(ran.stderr.decode())
+    return [tuple(json.loads(line)) for line in ran.stdout.splitlines()]
+
+
+def examples():
+    """Yields each numbered script with its stored report or fault."""
+    for path in sorted(DATA.glob("*.csv")):
+        report, fault = path.with_suffix(".report"), path.with_suffix(".fault")
+        if report.exists():
+            text = report.read_text(encoding="utf-8")
+            yield path.read_bytes(), (3 if "\ndiffers," in text else 0, text, "")
+        elif fault.exists() and not path.with_suffix(".stamps").exists():
+            yield path.read_bytes(), (1, "", fault.read_text(encoding="utf-8"))
+
+
+def faulty():
+    """Yields scripts with each fault of docs/TKCORE.md, and its text."""
+    for record, text in [
+            (b"updates,1", "unknown word"), (b"open,32,16777216,24,0,0,0", "unknown word"),
+            (b"get,1,clock", "unknown word"), (b"get,1,__proto__", "unknown word"),
+            (b"constructor,1", "unknown word"), (b"", None), (b"update", "wrong number of fields"),
+            (b"update,1,2", "wrong number of fields"), (b"get,1,tai,2,3", "wrong number of fields"),
+            (b"update,", "not a number in range"), (b"update,+1", "not a number in range"),
+            (b"update, 1", "not a number in range"), (b"update,-1", "not a number in range"),
+            (b"update,18446744073709551616", "not a number in range"),
+            (b"set,1,9223372036854775808,0", "not a number in range"),
+            (b"set,1,0,4294967296", "not a number in range"), (b"set,1,--1,0", "not a number in range"),
+            (b"update,\xd9\xa1", "not a number in range"), (b"update," + b"0" * 99 + b"7", None),
+            (b"counter,1,7,256,0,0", "a reading does not have 8 to 64 bits"),
+            (b"counter,1,65,1,33,0", "a reading does not have 8 to 64 bits"),
+            (b"counter,1,64,1,33,0", "the shift is above 32"),
+            (b"counter,1,64,255,32,0", "the mult is below 256"),
+            (b"counter,1,64,3869339907,0,0", "the mult and 11 percent of it do not fit 32 bits")]:
+        yield OPEN + record + b"\n", f"record 2: {text}" if text else None
+    for first, text in [
+            (b"update,1", "not a valid opening"), (b"open,32,16777216,24,0,0", "wrong number of fields"),
+            (b"open,x,1,1,1,1", "wrong number of fields"), (b"open,x,1,1,1,1,1", "not a number in range"),
+            (b"open,7,256,0,0,0,0", "not a valid opening"), (b"open,8,256,0,256,0,0", "not a valid opening"),
+            (b"open,8,256,0,0,8277292036,0", "not a valid opening"),
+            (b"open,8,256,0,0,0,0,0", "not a valid opening"), (b"open,8,256,0,0,0,0,1025", "not a valid opening"),
+            (b"openhz,8,0,1,0,0,0", "not a valid opening"), (b"openhz,8,1,601,0,0,0", "not a valid opening")]:
+        yield first + b"\nupdate\n", f"record 1: {text}"
+    yield b"", "no record"
+    yield b"\n\r\n\r", "no record"
+    yield b"\xef\xbb\xbf", "no record"
+    yield b"\n" * 16_777_217, "larger than 16777216 bytes"
+
+
+def wanted_of(given, script):
+    if given.program:
+        return compare.ran(given.program, [], script)
+    return compare.wanted(model.replay, script)
+
+
+def first_difference(pairs, found):
+    for (script, wanted), (*have, _) in zip(pairs, found):
+        if list(wanted) != have:
+            return f"{script[:2000].decode(errors='replace')}\n---\npage: {have}\nwanted: {list(wanted)}"
+    return None
+
+
+def value_of(line):
+    """Returns the value of a read's line in ns."""
+    return int(line.split(",")[2].replace(".", ""))
+
+
+def cycle_of(cursor):
+    """Returns the longest cycle of the script's counters, in ns."""
+    records = [line.split(",") for line in cursor["script"].splitlines()]
+    numbers = [(record[2], record[3]) for record in records if record[0] in ("open", "openwords")]
+    numbers += [(record[3], record[4]) for record in records if record[0] == "counter"]
+    return max((int(mult) / 2**int(shift) for mult, shift in numbers), default=0) + (
+        10**9 / int(records[0][2]) if records[0][0] == "openhz" else 0)
+
+
+def wrong_cursor(given, cursor):
+    """Returns what is wrong with what the page shows at its cursor, or None."""
+    lines = [line for line in wanted_of(given, cursor["script"].encode())[1].splitlines()
+             if not line.startswith("differs,")]
+    if lines[-len(cursor["lines"]):] != cursor["lines"]:
+        return "\n".join([cursor["script"], "--- cursor:", *cursor["lines"], "--- wanted:", *lines])
+    raw, boot, mono, real = map(value_of, lines[1:5])
+    starts = {"monotonic": mono, "boottime": boot, "realtime": real, "tai": real}
+    values = {line.split(",")[1]: value_of(line) for line in cursor["lines"] if line[:2] == "at"}
+    place, bound = int(cursor["place"]), cursor["place"] / 2**52    # (numbers of 53 bits)
+    ahead = {clock: values[clock] - start - place for clock, start in starts.items() if clock in values}
+    shown = {clock: stated for clock, stated in cursor["ahead"] if stated is not None}
+    if shown.keys() != ahead.keys() or any(
+            abs(stated - ahead[clock]) > bound + abs(stated) / 2**52 for clock, stated in shown.items()):
+        return f"{cursor['script']}\n--- ahead: {shown}\n--- wanted: {ahead}"
+    if {"monotonic_raw", "boottime", "monotonic"} <= values.keys() and not cursor["isAsleep"]:
+        exact = values["monotonic_raw"] + values["boottime"] - values["monotonic"] - (raw + boot - mono)
+        if abs(place - exact) > bound or not -bound - 2 <= place - cursor["asked"] <= cycle_of(cursor) + 2 + bound:
+            return f"{cursor['script']}\n--- place: {place}\n--- wanted: {exact}, asked: {cursor['asked']}"
+    return None
+
+
+def full():
+    """Yields scripts that fill a journal, with their reports: of plain clocks and of steered ones."""
+    most = 1_048_576
+    accepted = [f"ok,{number},0.000000001" for number in range(1, most + 1)]
+    yield OPEN + b"update,1\n" * (most + 2) + b"counter,1,8,256,0,0\nupdate,1\n", [
+        "open,32,16777216,24", *accepted, "no,full", "no,full", f"ok,{most + 1},0.000000001",
+        f"ok,{most + 2},0.000000257"]
+    # a request needs room for six commands, and a second and a command for three
+    yield STEERED + b"update,1\n" * (most - 3) + b"adjtimex,1,0,0,0,0,0,0,0,0,0,0\nupdate,1\nupdate,1\n" \
+        b"get,3000000000,tai\nsuspend,3000000001\nresume,1,0,0\n", [
+            "open,64,8388608,23", *accepted[:most - 3], "no,full", accepted[most - 3], "no,full",
+            "at,tai,1483228800.000000000", "no,full", "no,full"]
+
+
+def main():
+    read = argparse.ArgumentParser(usage=__doc__)
+    read.add_argument("module")
+    read.add_argument("--program")
+    read.add_argument("--scripts", type=int, default=2_000)
+    read.add_argument("--seed", type=int, default=1)
+    read.add_argument("--node", action="append", default=[])
+    read.add_argument("--long", action="store_true")
+    given = read.parse_args()
+    rng = random.Random(given.seed)
+    pairs = list(examples())
+    count = len(pairs)
+    for script, fault in faulty():
+        if fault:
+            pairs.append((script, (1, "", f"tkcore: script: {fault}\n")))
+    stated = len(pairs) - count
+    journals = list(full())[:2 if given.long else 1]
+    pairs += [(script, (0, "".join(f"{line}\n" for line in lines), "")) for script, lines in journals]
+    scripts = [*EDGES, *(script for script, fault in faulty() if not fault)]
+    scripts += [compare.script(rng) for _ in range(given.scripts)]
+    pairs += [(script, wanted_of(given, script)) for script in scripts]
+    found = answers(given, [script for script, _ in pairs])
+    cursors = [cursor for *_, some in found for cursor in some]
+    if wrong := first_difference(pairs, found) or next(filter(None, (
+            wrong_cursor(given, cursor) for cursor in cursors)), None):
+        sys.exit(wrong)
+    print(f"{count} examples, {stated} faults, {len(journals)} full journal(s) and {len(scripts)} scripts of "
+          f"seed {given.seed}: each report, and "
+          f"what {len(cursors)} cursors show, is {'the program' if given.program else 'the model'}'s")
+
+
+if __name__ == "__main__":
+    main()
