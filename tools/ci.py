@@ -1,68 +1,86 @@
 """The checks of CI in their order, which .ci/run runs."""
 import argparse
 import os
-import signal
-import subprocess
 import sys
 
 sys.dont_write_bytecode = True
 import rattle  # noqa: E402
 from checks.run import Run  # noqa: E402
+from checks.stops import Stops  # noqa: E402
 
 CHECKS = ("check_docs", "must_fail", "tests/tools", "check_using", "rt ci", "check_c",
-          "check_bindings", "check_program", "check_run", "check_kernel")
+          "check_bindings", "check_program", "check_run", "check_kernel", "check_web")
 
 
 def check_all(run):
-    """Runs all checks; those that take long only if the first ones pass."""
+    """Runs all checks; those that take long only if the first ones pass.
+
+    Packages may be installed meanwhile: a check that misses some waits for them.
+    """
     run.check("check_docs", "tools/check_docs")
     run.check("must_fail", "tools/must_fail", "--apply")
-    run.check("tests/tools", "python3", "-B", "-m", "unittest", "discover", "-s", "tests/tools")
     if run.has_failed():
         return
-    # `rt ci` and the library for C each prove in a copy's folders out/
-    proofs, library, built = run.copy("proofs"), run.copy("library"), run.work / "c"
-    run.start("check_using", "tools/check_using", is_beside=True)
-    run.start("check_c", library / "tools/check_c", "--keep", built, is_beside=True)
-    # `rt ci`, which tries some wrong edits too
-    run.check("rt ci", "tools/must_fail", "--ci", proofs)
-    run.end("check_using")
-    run.end("check_c")
+    # (`rt ci` proves in a copy, whose folders out/ it empties)
+    proofs, libraries, built = run.copy("proofs"), run.work / "libraries", run.work / "c"
+    prove(run, proofs, libraries, built)
+    if not run.has_failed():
+        run.start("check_program", proofs / "tools/check_program")
+    for name in "tests/tools", "check_using", "check_c":
+        run.end(name)
     if built.is_dir() or not run.has_failed("check_c"):
         run.check("check_bindings", "tools/check_bindings", "--dist", built)
+    run.end("check_program")
     if run.has_failed():
         return
-    run.check("check_program", proofs / "tools/check_program")
     os.environ["TKCORE"] = str(proofs / "crates/tkcore/out/tkcore")
+    run.start("check_kernel", "tools/check_kernel", "--dist", built)
+    run.start("check_web", "tools/check_web", "--libraries", libraries, is_beside=True)
     run.check("check_run", "tools/check_run", "--dist", built)
-    run.check("check_kernel", "tools/check_kernel", "--dist", built)
+    run.end("check_kernel")
+    run.end("check_web")
 
 
-def on_signal(handler):
-    for number in signal.SIGINT, signal.SIGTERM, signal.SIGHUP:
-        signal.signal(number, handler)
+def prove(run, proofs, libraries, built):
+    """Runs `rt ci`, and what needs no proof next to it as soon as the packages are installed.
 
+    check_c starts when the libraries below it are proved.
+    """
+    below = [libraries / f"{it.name}.rlib" for it in rattle.crates()["tk_c"].below]
 
-def stop(*_):
-    sys.exit(130)
+    def start_all():
+        run.start("tests/tools", "python3", "-B", "-m", "unittest", "discover", "-s",
+                  "tests/tools", is_beside=True)
+        run.start("check_using", "tools/check_using", is_beside=True)
+        if run.has_ended("rt ci") or all(it.exists() for it in below):
+            run.start("check_c", "tools/check_c", "--libraries", libraries, "--keep", built,
+                      is_beside=True)
+
+    def start_if_ready():
+        if run.has_packages():
+            start_all()
+
+    # `rt ci`, and some wrong edits next to it
+    run.start("rt ci", "tools/must_fail", "--ci", proofs, "--libraries", libraries)
+    run.end("rt ci", start_if_ready)
+    start_all()
 
 
 def main():
     read = argparse.ArgumentParser(prog=".ci/run")
     read.add_argument("--install", action="store_true",
-                      help="install what is missing first, as with CI=true")
+                      help="install what is missing too, as with CI=true")
     given = read.parse_args()
     rattle.require_logic(".ci/run")
     is_strict = given.install or os.environ.get("CI") == "true"
-    on_signal(stop)
-    if is_strict and subprocess.run(["tools/packages", "--install"], check=False).returncode:
-        print("CI: not all packages could be installed: what needs them is left out", flush=True)
-    run = Run(CHECKS, rattle.ROOT, is_strict)
+    run = Run(CHECKS, rattle.ROOT, is_strict, Stops())
     try:
+        if is_strict:
+            run.install()
         check_all(run)
+        run.end_installing()
         return run.report()
     finally:
-        on_signal(signal.SIG_IGN)
         run.close()
 
 

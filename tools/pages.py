@@ -56,6 +56,7 @@ def number_of(word):
 
 def pages():
     """Every page of the repository."""
-    names = ["*.md", "docs/*.md", "bench/*.md", "crates/*/README.md", "crates/*/CALLING.md",
+    names = ["*.md", "docs/*.md", "bench/*.md", "run/*.md", "tests/*.md", "tools/*.md",
+             "crates/*/README.md", "crates/*/CALLING.md", "release/*.md",
              "bindings/*/README.md", "examples/**/README.md"]
     return [Page(path) for name in names for path in sorted(ROOT.glob(name))]

@@ -66,10 +66,22 @@ class Crate:
         own = [crates()[name] for name in self.uses if name in crates()]
         return list(dict.fromkeys(low for it in own for low in (*it.below, it)))
 
+    def files(self):
+        """Returns the files of its sources, definitions and proofs."""
+        return self.folder.glob("[sp]*/**/*.*t")
+
     def changed(self):
         """Returns when a file of the crate, or of one below it, was last changed."""
-        files = [path for it in (*self.below, self) for path in it.folder.glob("[sp]*/**/*.*t")]
+        files = [path for it in (*self.below, self) for path in it.files()]
         return max(path.stat().st_mtime for path in files)
+
+    def jobs(self):
+        """Returns how many processes prove it: up to four, and one for each 1,500 lines.
+
+        Each process loads the crate's libraries again, which takes some 12 s of a processor.
+        """
+        lines = sum(path.read_bytes().count(b"\n") for path in self.files())
+        return min(max(1, lines // 1500), processors(), 4)
 
     def arguments(self, libraries, folder):
         """Returns rattle's arguments for the crate's files in a folder, over built libraries."""
@@ -79,12 +91,14 @@ class Crate:
         return [f"--crate-name={self.name}", f"-Ldependency={rlibs}", f"-Ldependency={libraries}",
                 *(f"--extern={name}={place / name}.rlib" for name, place in places), *kind,
                 f"--antt-project={kit() / 'rattle' / 'logic' / 'antt-project.json'}",
-                f"--logic-built={kit() / 'logic_built'}",
                 f"{folder}/src/{'main' if self.is_program else 'lib'}.rt"]
 
     def run(self, command, libraries, *more, folder=None):
         """Runs `rattle COMMAND` on the crate's files, and returns its status and its output."""
         given = ["rattle", command, *self.arguments(libraries, folder or self.folder), *more]
+        # (a command on a checked crate reads no logic)
+        if not any(it.startswith("--crate-checked=") for it in more):
+            given.append(f"--logic-built={kit() / 'logic_built'}")
         ran = subprocess.run(given, cwd=folder or self.folder, check=False, errors="replace",
                              stdin=subprocess.DEVNULL, stdout=subprocess.PIPE,
                              stderr=subprocess.STDOUT)
@@ -93,7 +107,7 @@ class Crate:
     def build(self, libraries):
         """Proves the crate and puts NAME.rlib, or a program's NAME, into a folder of libraries."""
         if not self.is_program:
-            return self.run("build", libraries, f"--jobs={min(processors(), 4)}", "--statements",
+            return self.run("build", libraries, f"--jobs={self.jobs()}", "--statements",
                             f"-o={libraries / self.name}.rlib")
         # (a program has few functions, and a second process would load its libraries again)
         made, toolchain = libraries / f"{self.name}.o", kit() / "toolchain"
@@ -107,8 +121,27 @@ class Crate:
         return ran.returncode, ran.stderr
 
     def is_built(self, libraries):
-        built = libraries / (self.name if self.is_program else f"{self.name}.rlib")
-        return built.exists() and built.stat().st_mtime > self.changed()
+        return self.is_newer(libraries / (self.name if self.is_program else f"{self.name}.rlib"))
+
+    def is_newer(self, made):
+        """Whether a file or folder was made after the crate and those below it were changed."""
+        return made.exists() and made.stat().st_mtime > self.changed()
+
+    def archive(self, libraries, backend, target, made):
+        """Compiles a static library into the archive `made`. Proves it once for each target in a
+        folder of libraries, for both backends."""
+        target, checked = f"--target={target}", libraries / f"{self.name}.{target}.checked"
+        if not self.is_newer(checked):
+            status, said = self.run("check", libraries, f"--jobs={min(processors(), 4)}", target,
+                                    f"-o={checked}")
+            if status:
+                return status, said
+        return self.run("build", libraries, f"--crate-checked={checked}", f"--backend={backend}",
+                        target, f"--toolchain={kit() / 'toolchain'}", f"-o={made}")
+
+    def verdict(self, libraries):
+        """Returns the file in which `prove` keeps the line of the prover's verdict."""
+        return libraries / f"{self.name}.verdict"
 
 
 @functools.cache
@@ -127,12 +160,18 @@ def product():
     return [crates()[it.partition(":")[0].split()[0]] for it in lines]
 
 
+def verdict_in(said):
+    """Returns the line of the verdict in what the prover printed, or ""."""
+    return next((it for it in said.splitlines() if it.startswith("logic=")), "")
+
+
 def prove(crate, libraries):
     """Builds a crate unless it is built, with a line that says so. Returns whether it is proved."""
     if crate.is_built(libraries):
         return True
     started = time.monotonic()
     status, said = crate.build(libraries)
+    crate.verdict(libraries).write_text(verdict_in(said) + "\n", encoding="utf-8")
     what = f"{'NOT PROVED' if status else 'proved'} in {time.monotonic() - started:.0f} s"
     print(f"{said if status else ''}{crate.name} {what}", flush=True)
     return status == 0

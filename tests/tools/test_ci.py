@@ -1,6 +1,7 @@
 """The verdicts of .ci/run on checks that run, fail, or are left out as a whole or in part."""
 import os
 import pathlib
+import re
 import signal
 import subprocess
 import time
@@ -8,9 +9,9 @@ import time
 from tools import LOGIC, Case
 
 CHECKS = ["check_docs", "must_fail", "tests/tools", "check_using", "rt ci", "check_c",
-          "check_bindings", "check_program", "check_run", "check_kernel"]
+          "check_bindings", "check_program", "check_run", "check_kernel", "check_web"]
 # (libtkcore.a stands for what check_c keeps)
-KEEPS = '[ "$1" = --keep ] && mkdir "$2" && touch "$2/libtkcore.a"'
+KEEPS = '[ "$1" = --libraries ] && [ "$3" = --keep ] && mkdir "$4" && touch "$4/libtkcore.a"'
 LIST = """# CHECK PACKAGE FOUND BY USED FOR
 
 check_c         part-of-c       c-part                  the headers by c-part
@@ -33,6 +34,17 @@ for word; do
     chmod +x {room}/first/$name
 done
 """
+
+
+def until(condition, tries=6000):
+    """The shell's words that wait until a condition holds, and end with status 7 if it doesn't by
+    then. A try takes 0.1 s."""
+    return f"n=0; until {condition}; do [ $((n += 1)) -lt {tries} ] || exit 7; sleep 0.1; done"
+
+
+def uptime():
+    """The host's time in s, also in the form that a stub finds."""
+    return float(pathlib.Path("/proc/uptime").read_text(encoding="utf-8").split()[0])
 
 
 class Ci(Case):
@@ -101,14 +113,14 @@ class Ci(Case):
         for name in "emulate", "c-part", "a-language":
             self.stand_in(name, "exit 0")
         status, verdicts, last, said = self.run_ci()
-        self.assertEqual((0, self.but(), "10 passed, 0 failed"), (status, verdicts, last))
+        self.assertEqual((0, self.but(), "11 passed, 0 failed"), (status, verdicts, last))
         self.assertEqual([], self.parts(said))
         self.assertFalse((self.room / "apt").exists())
 
     def test_a_check_without_its_packages_is_left_out_and_named(self):
         status, verdicts, last, said = self.run_ci()
         wanted = self.but(check_kernel="left out: emulator")
-        self.assertEqual((0, wanted, "9 passed, 0 failed, 1 skipped"), (status, verdicts, last))
+        self.assertEqual((0, wanted, "10 passed, 0 failed, 1 skipped"), (status, verdicts, last))
         # (parts are named also if their check says nothing of them)
         self.assertEqual(["the headers by c-part: part-of-c", "a program: a-language"],
                          self.parts(said))
@@ -117,16 +129,26 @@ class Ci(Case):
         for words, ci in ([["--install"], ""], [[], "true"]):
             with self.subTest(words):
                 status, verdicts, last, said = self.run_ci(*words, ci=ci)
-                self.assertEqual((0, self.but(), "10 passed, 0 failed"), (status, verdicts, last))
+                self.assertEqual((0, self.but(), "11 passed, 0 failed"), (status, verdicts, last))
                 self.assertIn("installing part-of-c emulator a-language\n", said)
                 for name in "emulate", "c-part", "a-language":
                     (self.first / name).unlink()
+
+    def test_packages_are_installed_while_rt_ci_runs(self):
+        begun = self.room / "begun"
+        wait = until(f"[ -e {begun} ]") + "\n"
+        self.write("tools/packages.txt", f"{LIST}tests/tools part-of-c c-part a test\n")
+        self.stand_in("apt-get", wait + APT.format(room=self.room, broken=""))
+        self.stub("rt ci", f"touch {begun}")
+        status, verdicts, last, said = self.run_ci(ci="true")
+        self.assertEqual((0, self.but(), "11 passed, 0 failed"), (status, verdicts, last))
+        self.assertLess(said.index("CI: must_fail ended"), said.index("installing part-of-c"))
 
     def test_packages_that_cannot_be_installed_leave_their_checks_out(self):
         self.apt("emulator")
         status, verdicts, last, said = self.run_ci(ci="true")
         wanted = self.but(check_kernel="left out: emulator")
-        self.assertEqual((0, wanted, "9 passed, 0 failed, 1 skipped"), (status, verdicts, last))
+        self.assertEqual((0, wanted, "10 passed, 0 failed, 1 skipped"), (status, verdicts, last))
         self.assertIn("tools/packages: emulator can't be installed:\nE: no emulator\n", said)
         self.assertIn("CI: not all packages could be installed:", said)
         # (apt-get installs none of several if one can't be, so the others were installed alone)
@@ -141,11 +163,20 @@ class Ci(Case):
         wanted = self.but(check_kernel="failed: emulator")
         self.assertEqual((1, wanted), self.run_ci(ci="true")[:2])
 
+    def test_what_is_installed_is_looked_up_again_after_the_installation(self):
+        # (dpkg is asked before it too, for the package of check_docs)
+        self.write("tools/packages.txt", f"{LIST}check_docs a-name - a part\n")
+        done = self.room / "installed"
+        self.stand_in("apt-get", f"touch {done}")
+        self.stand_in("dpkg-query", f"[ ! -e {done} ] || echo 'installed emulator'")
+        wanted = self.but(check_kernel="failed: emulator")
+        self.assertEqual((1, wanted), self.run_ci(ci="true")[:2])
+
     def test_a_run_goes_on_without_apt_get(self):
         self.stand_in("apt-get", "echo 'E: Permission denied'\nexit 100")
         status, verdicts, last, said = self.run_ci(ci="true")
         wanted = self.but(check_kernel="left out: emulator")
-        self.assertEqual((0, wanted, "9 passed, 0 failed, 1 skipped"), (status, verdicts, last))
+        self.assertEqual((0, wanted, "10 passed, 0 failed, 1 skipped"), (status, verdicts, last))
         self.assertIn("tools/packages: apt-get update failed:\nE: Permission denied\n", said)
 
     def test_a_part_left_out_with_its_packages_installed_fails_where_they_are_to_be(self):
@@ -153,53 +184,64 @@ class Ci(Case):
         self.stub("check_run", "echo 'check_run: left out test_go: a-language isn'\"'t installed\"")
         part = "test_go: a-language isn't installed"
         status, verdicts, last, said = self.run_ci()
-        self.assertEqual((0, self.but(), "10 passed, 0 failed"), (status, verdicts, last))
+        self.assertEqual((0, self.but(), "11 passed, 0 failed"), (status, verdicts, last))
         self.assertIn(part, self.parts(said))
         status, verdicts, last, said = self.run_ci(ci="true")
         why = "failed: left out with its packages installed: test_go"
-        self.assertEqual((1, self.but(check_run=why), "9 passed, 1 failed"),
+        self.assertEqual((1, self.but(check_run=why), "10 passed, 1 failed"),
                          (status, verdicts, last))
         self.apt("a-language")
         (self.first / "a-language").unlink()
         status, verdicts, last, said = self.run_ci(ci="true")
-        self.assertEqual((0, self.but(), "10 passed, 0 failed"), (status, verdicts, last))
+        self.assertEqual((0, self.but(), "11 passed, 0 failed"), (status, verdicts, last))
         self.assertIn(part, self.parts(said))
 
     def test_a_part_left_out_for_another_reason_is_named_and_passes(self):
         why = "no TSC, and part-of-c has none"
         self.stub("check_c", f"{KEEPS}\necho 'check_c: left out: reads of the TSC: {why}'")
         status, verdicts, last, said = self.run_ci(ci="true")
-        self.assertEqual((0, self.but(), "10 passed, 0 failed"), (status, verdicts, last))
+        self.assertEqual((0, self.but(), "11 passed, 0 failed"), (status, verdicts, last))
         self.assertEqual([f"reads of the TSC: {why}"], self.parts(said))
 
     def test_a_check_that_fails_is_named_and_counted(self):
         self.stand_in("emulate", "exit 0")
         self.stub("check_run", "echo 'a test failed'\nexit 3")
         status, verdicts, last, said = self.run_ci()
-        self.assertEqual((1, self.but(check_run="failed: status 3"), "9 passed, 1 failed"),
+        self.assertEqual((1, self.but(check_run="failed: status 3"), "10 passed, 1 failed"),
                          (status, verdicts, last))
         self.assertIn("a test failed\n", said)
 
     def test_nothing_long_runs_after_a_quick_check_that_fails(self):
         self.stub("must_fail", "exit 1")
         status, verdicts, last, _ = self.run_ci()
-        rest = dict.fromkeys(CHECKS[3:], "not run: after a failure of must_fail")
+        rest = dict.fromkeys(CHECKS[2:], "not run: after a failure of must_fail")
         self.assertEqual((1, self.but(must_fail="failed: status 1", **rest),
-                          "2 passed, 1 failed, 7 skipped"), (status, verdicts, last))
+                          "1 passed, 1 failed, 9 skipped"), (status, verdicts, last))
+
+    def test_the_library_for_c_is_checked_while_rt_ci_proves_the_crates_above(self):
+        begun = self.room / "begun"
+        self.stub("check_c", f"touch {begun}\n{KEEPS}\necho done")
+        self.stub("rt ci", f"""[ "$3" = --libraries ] && mkdir "$4" || exit 4
+            for name in tk_counter tk_clock tk_lanes tk_line; do mkdir "$4/$name.rlib"; done
+            sleep 1
+            [ ! -e {begun} ] && mkdir "$4/tk_ntp.rlib" || exit 5
+            {until(f"[ -e {begun} ]")}""")
+        status, verdicts, _, said = self.run_ci()
+        self.assertEqual((0, "ran", "ran"), (status, verdicts["rt ci"], verdicts["check_c"]), said)
 
     def test_the_packages_are_checked_after_rt_ci_failed_and_the_program_is_not(self):
         self.stub("rt ci", "echo '40 passed, 2 failed'\nexit 1")
         status, verdicts, last, said = self.run_ci()
         rest = dict.fromkeys(CHECKS[7:], "not run: after a failure of rt ci")
         self.assertEqual((1, self.but(**{"rt ci": "failed: status 1"}, **rest),
-                          "6 passed, 1 failed, 3 skipped"), (status, verdicts, last))
+                          "6 passed, 1 failed, 4 skipped"), (status, verdicts, last))
         self.assertIn("\n40 passed, 2 failed\n", said)
 
     def test_the_library_that_is_not_built_is_not_tried(self):
         self.stub("check_c", "exit 1")
         _, verdicts, last, _ = self.run_ci()
         self.assertEqual("not run: after a failure of check_c", verdicts["check_bindings"])
-        self.assertEqual("5 passed, 1 failed, 4 skipped", last)
+        self.assertEqual("6 passed, 1 failed, 4 skipped", last)
 
     def test_the_times_of_the_checks_are_printed_as_the_page_has_them(self):
         _, _, _, said = self.run_ci()
@@ -207,7 +249,23 @@ class Ci(Case):
         for line in times:
             self.assertRegex(line, r"^[\w./ ]{15} +\d+ s +\d+ s$")
         names = [it[:16].strip() for it in times]
-        self.assertEqual([*CHECKS[:-1], ".ci/run"], names)
+        self.assertEqual([*(it for it in CHECKS if it != "check_kernel"), ".ci/run"], names)
+
+    def test_the_time_of_a_check_beside_others_ends_with_it(self):
+        # rt ci notes when the other one's number was free, and ends 4 s later
+        using, gone = self.room / "using", self.room / "gone"
+        self.stub("check_using", f"echo $$ >{using}")
+        self.stub("rt ci", f"""{until(f"[ -s {using} ]")}
+            {until(f"[ ! -e /proc/$(cat {using}) ]", 600)}
+            cut -d' ' -f1 /proc/uptime >{gone}
+            sleep 4""")
+        began = uptime()
+        _, verdicts, _, said = self.run_ci()
+        self.assertEqual("ran", verdicts["rt ci"])
+        times = dict(re.findall(r"^(check_using|rt ci) +(\d+) s", said, re.M))
+        most = float(gone.read_text(encoding="utf-8")) - began
+        self.assertLessEqual(int(times["check_using"]), most + 1)  # (it is rounded)
+        self.assertGreater(int(times["rt ci"]), 3)
 
     def check_ended(self, file):
         """The process whose number is in a file has ended, or does so within a minute."""

@@ -1,11 +1,18 @@
 """The files that tools/install puts below a prefix."""
+import subprocess
+
 from tools import Case
 
 LIBRARY = ["include/tkcore.h", "lib/libtkcore.a", "lib/libtkcore.so", "lib/libtkcore.so.0",
            "lib/pkgconfig/tkcore.pc", "share/doc/tkcore/C.md", "share/man/man3/tkcore.3"]
 LICENCES = ["share/doc/tkcore/LICENSE-APACHE", "share/doc/tkcore/LICENSE-MIT"]
-PROGRAM = ["bin/tkcore", "share/man/man1/tkcore.1"]
-RUN = ["bin/tkrun", "lib/libtkrun.so", "share/doc/tkcore/RUN.md", "share/man/man1/tkrun.1"]
+COMPLETION = ["share/bash-completion/completions/{}", "share/zsh/site-functions/_{}"]
+PLOT = ["bin/tkcore-plot", *(f"share/tkcore/plot_parts/{it}.py"
+                             for it in ("panels", "records", "tables"))]
+PROGRAM = ["bin/tkcore", "share/man/man1/tkcore.1", *PLOT,
+           *(it.format("tkcore") for it in COMPLETION)]
+RUN_BUILT = ["bin/tkrun", "lib/libtkrun.so", "share/man/man1/tkrun.1"]
+RUN = [*RUN_BUILT, "share/doc/tkcore/RUN.md", *(it.format("tkrun") for it in COMPLETION)]
 
 
 class Install(Case):
@@ -38,6 +45,10 @@ class Install(Case):
         self.build(["bin/tkcore"])
         self.check(PROGRAM + LICENCES)
 
+    def test_the_program_that_needs_no_c_library(self):
+        self.build(["bin/tkcore", "bin/tkcore-static"])
+        self.check([*PROGRAM, "lib/tkcore/tkcore-static"] + LICENCES)
+
     def test_the_library_alone(self):
         self.build_library()
         self.check(LIBRARY + LICENCES, "--library")
@@ -50,7 +61,14 @@ class Install(Case):
         self.assertEqual(0o755, (self.prefix / "bin/tkcore").stat().st_mode & 0o777)
 
     def build_run(self):
-        self.build(name for name in RUN if not name.startswith("share/doc"))
+        self.build(RUN_BUILT)
+
+    def test_the_installed_plot_finds_its_parts(self):
+        self.build(["bin/tkcore"])
+        self.check(PROGRAM + LICENCES)
+        ran = subprocess.run([self.prefix / "bin/tkcore-plot", "--help"], capture_output=True,
+                             text=True, check=False)
+        self.assertEqual((0, ""), (ran.returncode, ran.stderr))
 
     def test_tkrun_too(self):
         self.build(["bin/tkcore"])
@@ -85,7 +103,7 @@ class Install(Case):
             self.assertFalse(self.prefix.exists())
 
     def test_other_arguments_are_refused(self):
-        usage = "usage: [DESTDIR=FOLDER] tools/install [--library] PREFIX\n"
+        usage = "usage: [DESTDIR=FOLDER] [LIBDIR=lib] tools/install [--library] PREFIX\n"
         for words in [], [""], ["-h"], ["--library"], ["one", "two"]:
             with self.subTest(words):
                 self.assertEqual((2, "", usage),

@@ -93,6 +93,7 @@ class MustFail(Case):
     def ended_ci(self, script):
         """Runs `rt ci` by this script in a copy, and returns the status and the last line."""
         self.stand_in("rt", f'[ "$1" != version ] || exec echo "rattle-kit-99z logic {LOGIC}"\n'
+                            f'[ "$1" != doc ] || exec echo {self.room}/kit/START-HERE.md\n'
                             f'echo "$*" >>{self.room}/calls\n{script}')
         copy = self.room / "proofs"
         shutil.copytree(self.top, copy)
@@ -103,20 +104,46 @@ class MustFail(Case):
         shutil.rmtree(copy)
         return status, said.splitlines()[-1]
 
-    def test_rt_ci_tries_edits_in_a_copy_and_must_count_them_all(self):
+    def test_rt_ci_must_count_all_crates_and_each_edit_must_be_refused(self):
         self.write("must-fail-together/first.edit", FIRST)
-        self.write("must-fail-together/second.edit", SECOND)
-        ends = ("ls crates/low/must-fail/first.edit crates/low/must-fail/second.edit\n"
-                "echo '{}'\nexit {}")
-        too_few = "must_fail: of 3 crates and wrong edits, rt ci counts too few"
-        for last, ended, wanted in [("3 passed, 0 failed", 0, (0, "3 passed, 0 failed")),
-                                    ("2 passed, 0 failed", 0, (1, too_few)),
-                                    ("2 passed, 1 failed", 1, (1, "2 passed, 1 failed")),
-                                    ("nothing was judged", 2, (2, "nothing was judged")),
+        self.stand_in("rattle", 'echo "fn low::Clock::first: not proved"\nexit 1')
+        refused = "must_fail: 1 edits of 1 crates refused, 0 not"
+        too_few = "must_fail: rt ci didn't pass 1 crates"
+        for last, ended, wanted in [("1 passed, 0 failed", 0, (0, refused)),
+                                    ("0 passed, 0 failed", 0, (1, too_few)),
+                                    ("1 passed, 1 failed", 1, (1, too_few)),
+                                    ("nothing was judged", 2, (2, too_few)),
                                     ("nothing was judged", 0, (1, too_few))]:
             with self.subTest(last):
-                self.assertEqual(wanted, self.ended_ci(ends.format(last, ended)))
-        self.assertFalse((self.top / "crates" / "low" / "must-fail").exists())
+                self.assertEqual(wanted, self.ended_ci(f"echo '{last}'\nexit {ended}"))
+        self.stand_in("rattle", "exit 0")
+        missed = "must_fail: 0 edits of 1 crates refused, 1 not"
+        self.assertEqual((1, missed), self.ended_ci("echo '1 passed, 0 failed'"))
+
+    def test_edits_are_tried_as_soon_as_rt_ci_has_proved_the_crates_below(self):
+        (self.top / "crates.txt").write_text("low:\nhigh: low\n", encoding="utf-8")
+        for crate in "low", "high":
+            self.write(f"../{crate}/src/lib.rt", SOURCE)
+            self.write(f"../{crate}/must-fail-together/first.edit", FIRST)
+        self.stand_in("rattle", f"""
+            for word; do case $word in
+                --crate-name=*) name=${{word#*=}} ;;
+                --extern=low=*) [ -d "${{word##*=}}" ] || exit 2 ;;
+            esac; done
+            touch {self.room}/tried.$name
+            echo "fn $name::Clock::first: not proved"
+            exit 1""")
+        script = f"""
+            mkdir -p crates/low/out/rlib/low.rlib
+            until [ -e {self.room}/tried.low ]; do sleep 0.1; done
+            sleep 1
+            [ ! -e {self.room}/tried.high ] || exit 7
+            echo 'rt: low proved'
+            until [ -e {self.room}/tried.high ]; do sleep 0.1; done
+            echo 'rt: high proved'
+            echo '2 passed, 0 failed'"""
+        self.assertEqual((0, "must_fail: 2 edits of 2 crates refused, 0 not"),
+                         self.ended_ci(script))
 
     def test_an_edit_that_no_longer_applies_is_listed(self):
         self.write("must-fail-together/first.edit", FIRST.replace("1\n", "5\n", 1))

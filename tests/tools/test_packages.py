@@ -113,6 +113,45 @@ class Packages(Case):
                              "two: not installed: source:named\n", ""),
                          self.run_packages("--install", "two"))
 
+    def test_a_package_that_conflicts_is_unpacked(self):
+        text = f"two deb:named {self.room}/named a part\ntwo tool a-tool a part\n"
+        (self.top / "tools/packages.txt").write_text(text, encoding="utf-8")
+        self.apt('case " $* " in\n*" download "*) touch named_1_all.deb ;;\n'
+                 f"*) ln -sf /bin/true {self.first}/a-tool ;;\nesac")
+        self.stand_in("dpkg", f'echo "$1 ${{2##*/}} $3" >{self.room}/unpacked\n'
+                              f"touch {self.room}/named")
+        self.assertEqual((0, "tools/packages: installing deb:named tool\n", ""),
+                         self.run_packages("--install", "two"))
+        self.assertEqual([["update"], ["install", "tool"], ["download", "named"]], self.asked())
+        self.assertEqual("-x named_1_all.deb /usr/src/deb-named\n",
+                         (self.room / "unpacked").read_text(encoding="utf-8"))
+
+    def test_a_package_that_was_removed_for_another_is_unpacked_too(self):
+        text = f"two deb:named {self.room}/named a part\ntwo tool a-tool a part\n"
+        (self.top / "tools/packages.txt").write_text(text, encoding="utf-8")
+        (self.room / "named").touch()
+        self.apt('case " $* " in\n*" download "*) touch named_1_all.deb ;;\n'
+                 f'*" install "*) rm {self.room}/named\nln -sf /bin/true {self.first}/a-tool ;;\n'
+                 "esac")
+        self.stand_in("dpkg", f"touch {self.room}/named")
+        self.assertEqual((0, "tools/packages: installing tool\n"
+                             "tools/packages: installing deb:named\n", ""),
+                         self.run_packages("--install", "two"))
+        self.assertEqual([["update"], ["install", "tool"], ["update"], ["download", "named"]],
+                         self.asked())
+
+    def test_a_package_that_cannot_be_unpacked_is_named(self):
+        text = f"two deb:named {self.room}/named a part\n"
+        (self.top / "tools/packages.txt").write_text(text, encoding="utf-8")
+        for tool, script in [("apt-get", 'case " $* " in *" update "*) ;; *) echo "E: bad"; exit 1 ;; esac'),
+                             ("dpkg", "echo 'E: bad'\nexit 2")]:
+            self.stand_in(tool, script)
+            self.assertEqual((1, "tools/packages: installing deb:named\n"
+                                 "tools/packages: deb:named can't be installed:\nE: bad\n"
+                                 "two: not installed: deb:named\n", ""),
+                             self.run_packages("--install", "two"))
+            self.apt("exit 0")
+
     def test_a_failure_of_apt_get_is_told_in_its_own_words(self):
         self.apt("echo 'E: Permission denied'\nexit 100")
         status, said, errors = self.run_packages("--install", "two")

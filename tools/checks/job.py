@@ -7,6 +7,7 @@ import subprocess
 import time
 
 PAUSE = 0.1  # s between two looks at a command's output
+BESIDE = 5  # how nice a command is that runs beside others: it gets a third of their time
 GRACE = 10  # s that a command has to end after SIGTERM
 
 
@@ -14,10 +15,10 @@ class Job:
     """A command that runs. Its output goes into a file."""
 
     def __init__(self, command, output, is_beside):
-        """Starts a command; beside others, on the processors that they leave idle."""
+        """Starts a command; beside others, mostly on the processors that they leave idle."""
         self.output = pathlib.Path(output)
         self.started = time.monotonic()
-        words = [*(["nice", "-n", "10"] if is_beside else []), *map(str, command)]
+        words = [*(["nice", "-n", str(BESIDE)] if is_beside else []), *map(str, command)]
         with open(self.output, "wb") as file:
             self.process = subprocess.Popen(words, stdin=subprocess.DEVNULL, stdout=file,
                                             stderr=subprocess.STDOUT, process_group=0)
@@ -43,8 +44,9 @@ class Job:
         with contextlib.suppress(ProcessLookupError):
             os.killpg(self.number, number)
 
-    def follow(self):
-        """Prints the output of the command until it has ended. Returns all of it."""
+    def follow(self, meanwhile):
+        """Prints the output of the command until it has ended, and calls `meanwhile` again and
+        again. Returns all of the output."""
         found = []
         with open(self.output, encoding="utf-8", errors="replace") as file:
             while True:
@@ -53,6 +55,7 @@ class Job:
                 print(found[-1], end="", flush=True)
                 if has_ended:
                     return "".join(found)
+                meanwhile()
                 time.sleep(PAUSE)
 
     def end(self):

@@ -12,7 +12,8 @@ import tempfile
 LIST = pathlib.Path(__file__).resolve().parents[1] / "packages.txt"
 INSTALL = ["install", "-y", "-q", "--no-install-recommends", "-o", "DPkg::Lock::Timeout=600"]
 APT = pathlib.Path("/etc/apt")
-SOURCE, SOURCES = "source:", "/usr/src"  # how the list names a source, and where it is unpacked
+# how the list names a source, and a package that is unpacked and not installed; where both are
+SOURCE, UNPACKED, FOLDER = "source:", "deb:", "/usr/src"
 
 
 @dataclasses.dataclass(frozen=True)
@@ -88,16 +89,30 @@ def named_in(check, reason):
     return [listed[it] for it in names] if set(names) <= set(listed) else []
 
 
-def apt_get(*words, folder=None):
-    """Runs apt-get in a folder. Returns its status and the last lines that it printed."""
+def run(*words, folder=None):
+    """Runs a command in a folder. Returns its status and the last lines that it printed."""
     try:
-        ran = subprocess.run(["apt-get", *words], check=False, text=True, errors="replace",
+        ran = subprocess.run(words, check=False, text=True, errors="replace",
                              env={**os.environ, "DEBIAN_FRONTEND": "noninteractive"}, cwd=folder,
                              stdin=subprocess.DEVNULL, stdout=subprocess.PIPE,
                              stderr=subprocess.STDOUT)
     except FileNotFoundError:
-        return 127, "there is no apt-get"
+        return 127, f"there is no {words[0]}"
     return ran.returncode, "\n".join(ran.stdout.splitlines()[-5:])
+
+
+def apt_get(*words, folder=None):
+    return run("apt-get", *words, folder=folder)
+
+
+def unpack(name):
+    """Downloads a package, and unpacks it without installing it: FOLDER/deb-NAME. Returns the status
+    and the last lines of what failed."""
+    with tempfile.TemporaryDirectory() as room:
+        status, said = apt_get("download", "-q", name, folder=room)
+        if status:
+            return status, said
+        return run("dpkg", "-x", *glob.glob(f"{room}/*.deb"), f"{FOLDER}/deb-{name}")
 
 
 def install(names):
@@ -106,15 +121,17 @@ def install(names):
     if status:
         yield f"apt-get update failed:\n{said}"
     sources = [it for it in names if it.startswith(SOURCE)]
-    binaries = [it for it in names if it not in sources]
+    unpacked = [it for it in names if it.startswith(UNPACKED)]
+    binaries = [it for it in names if it not in sources + unpacked]
     if binaries and apt_get(*INSTALL, *binaries)[0]:
         yield from failures([(name, *apt_get(*INSTALL, name)) for name in binaries])
+    yield from failures([(name, *unpack(name[len(UNPACKED):])) for name in unpacked])
     if sources:
         with tempfile.TemporaryDirectory() as room:
             options = source_options(pathlib.Path(room))
             apt_get(*options, "update", "-q")
             yield from failures([(name, *apt_get(*options, "source", "-q", name[len(SOURCE):],
-                                                 folder=SOURCES)) for name in sources])
+                                                 folder=FOLDER)) for name in sources])
 
 
 def failures(results):

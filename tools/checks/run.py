@@ -18,33 +18,75 @@ def time_of(sec):
 class Run:
     """A run of CI in a temporary folder."""
 
-    def __init__(self, names, top, is_strict):
+    def __init__(self, names, top, is_strict, stops):
         """Begins a run of these checks. If it is strict, packages were to be installed for it."""
-        self.top, self.is_strict = top, is_strict
+        self.top, self.is_strict, self.stops = top, is_strict, stops
         self.started = time.monotonic()
         self.work = pathlib.Path(tempfile.mkdtemp(prefix="ci-"))
-        self.jobs = {}
+        self.jobs, self.begun, self.installing = {}, set(), None
         self.verdicts = {name: verdict.Verdict(name, "not run") for name in names}
 
     def has_failed(self, *names):
         """Whether one of these checks has failed, or any check if none is named."""
         return any(self.verdicts[it].word == "failed" for it in names or self.verdicts)
 
+    def has_ended(self, name):
+        """Whether a check was started and has ended."""
+        return name in self.jobs and self.jobs[name].has_ended()
+
+    def install(self):
+        """Starts to install the packages that are missing."""
+        with self.stops.held():
+            self.installing = Job(["tools/packages", "--install"], self.work / "packages", False)
+
+    def has_packages(self):
+        """Whether nothing is being installed."""
+        if self.installing and self.installing.has_ended():
+            self.end_installing()
+        return not self.installing
+
+    def end_installing(self):
+        """Waits until the packages are installed, and says so if some can't be."""
+        if self.installing:
+            self.installing.follow(lambda: None)
+            if self.installing.status:
+                print("CI: not all packages could be installed: what needs them is left out",
+                      flush=True)
+            packages.installed.cache_clear()
+        self.installing = None
+
     def start(self, name, *command, is_beside=False):
-        """Starts a check, unless a package isn't there without which nothing of it runs."""
+        """Starts a check unless it was started, or a package isn't there that all of it needs.
+
+        If any of its packages isn't there, it first waits until those are installed that can be.
+        """
+        if name in self.begun:
+            return
+        self.begun.add(name)
+        if self.installing and packages.missing(name):
+            self.end_installing()
         if missing := packages.missing(name, is_needed_only=True):
             # (a package that is installed, but isn't found by what the list says, is a fault there)
             is_fault = self.is_strict and packages.installed() & set(missing)
             word = "failed" if is_fault else "left out"
             self.verdicts[name] = verdict.Verdict(name, word, " ".join(missing))
             return
-        self.jobs[name] = Job(command, self.work / name.replace("/", "-"), is_beside)
+        with self.stops.held():
+            self.jobs[name] = Job(command, self.work / name.replace("/", "-"), is_beside)
 
-    def end(self, name):
-        """Waits for a check, prints what it prints, and judges it."""
+    def end(self, name, meanwhile=lambda: None):
+        """Waits for a check, prints what it prints, and judges it.
+
+        It calls `meanwhile` again and again while it waits.
+        """
+        def look():
+            for it in self.jobs.values():  # (of one that has ended, the time is known then)
+                it.has_ended()
+            meanwhile()
+
         if name in self.jobs:
             job = self.jobs[name]
-            self.verdicts[name] = verdict.judge(name, job, job.follow(), self.is_strict)
+            self.verdicts[name] = verdict.judge(name, job, job.follow(look), self.is_strict)
             print(f"CI: {name} ended after {time_of(time.monotonic() - self.started)}", flush=True)
 
     def check(self, name, *command):
@@ -60,7 +102,8 @@ class Run:
 
     def close(self):
         """Ends what still runs, and removes the folder."""
-        for job in self.jobs.values():
+        self.stops.ignore()
+        for job in [*self.jobs.values(), *([self.installing] if self.installing else [])]:
             job.end()
         shutil.rmtree(self.work, ignore_errors=True)
 

@@ -1,0 +1,45 @@
+"""What tools/build_run says if it can't build tkrun."""
+import unittest
+
+from tools import Case
+
+GCC = """case $1 in
+-dumpmachine) echo {machine} ;;
+-dM) printf '%s\\n' '{glibc}' ;;
+*) exit 70 ;;
+esac"""
+OLD = "#define __GLIBC__ 2\n#define __GLIBC_MINOR__ 31"
+
+
+class BuildRun(Case):
+    def setUp(self):
+        super().setUp()
+        self.top = self.copy("include")
+        archive = self.top / "dist/lib/libtkcore.a"
+        archive.parent.mkdir(parents=True)
+        archive.touch()
+
+    def fails(self, sentence, machine="x86_64-linux-gnu", glibc=OLD):
+        self.stand_in("gcc", GCC.format(machine=machine, glibc=glibc))
+        self.assertEqual((1, "", f"build_run: {sentence}\n"),
+                         self.run_tool("tools/build_run", top=self.top))
+
+    def test_another_processor_is_one_sentence(self):
+        self.fails("gcc builds for aarch64-linux-gnu, and tkrun is for x86-64 only",
+                   "aarch64-linux-gnu")
+
+    def test_an_old_glibc_is_one_sentence(self):
+        self.fails("gcc's C library is glibc 2.31, and tkrun needs glibc 2.32 or later")
+
+    def test_another_c_library_is_one_sentence(self):
+        self.fails("gcc's C library is no glibc, and tkrun needs glibc 2.32 or later",
+                   glibc="#define __linux__ 1")
+
+    def test_a_missing_library_is_one_sentence(self):
+        archive = self.top / "dist/lib/libtkcore.a"
+        archive.unlink()
+        self.fails(f"{archive} isn't there; make assembles it, and tools/build_c proves it")
+
+
+if __name__ == "__main__":
+    unittest.main()

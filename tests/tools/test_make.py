@@ -1,0 +1,162 @@
+"""What `make` builds from a text in release/, and what it says if it can't."""
+import hashlib
+import os
+import re
+import shutil
+import subprocess
+import unittest
+
+from tools import TOP, Case
+
+SHARED = "libtkcore.so.0"
+CALLER = """#include <tkcore.h>
+int main(void) { return tkc_version() != 7; }
+"""
+
+
+def text():
+    """Returns a text with each function that the header declares. tkc_version returns 7."""
+    header = (TOP / "include/tkcore.h").read_text(encoding="utf-8")
+    plain = re.sub(r"^TKC_INLINE.*?^}", "", header, flags=re.M | re.S)
+    names = sorted(set(re.findall(r"\b(tkc_[a-z_]+)\(", plain)))
+    lines = [f".globl {name}\n.type {name}, @function\n{name}: mov $7, %eax\nret" for name in names]
+    return "\n".join([".text", *lines, '.section .note.GNU-stack,"",@progbits', ""])
+
+
+class Make(Case):
+    def setUp(self):
+        super().setUp()
+        self.top = self.copy("Makefile", "include", "examples/c", "run/script", "docs/tkcore.3",
+                             "docs/C.md", "LICENSE-APACHE", "LICENSE-MIT")
+        self.text = self.top / "release/x86_64/tkcore.s"
+        self.text.parent.mkdir(parents=True)
+        self.text.write_text(text(), encoding="utf-8")
+        total = hashlib.sha256(self.text.read_bytes()).hexdigest()
+        (self.top / "release/MANIFEST").write_text(
+            f"# What they are\n\n[library]\n{total}  x86_64/tkcore.s\n", encoding="utf-8")
+
+    def make(self, *words):
+        """Runs make with the stand-ins. Returns its status, its output and its errors."""
+        found = {**os.environ, "PATH": f"{self.first}:{os.environ['PATH']}", "LC_ALL": "C"}
+        found.pop("MAKEFLAGS", None)
+        ran = subprocess.run(["make", "-s", *words], cwd=self.top, env=found, check=False,
+                             capture_output=True, text=True, stdin=subprocess.DEVNULL)
+        return ran.returncode, ran.stdout, ran.stderr
+
+    def make_library(self):
+        self.assertEqual((0, "", ""), self.make("clean"))
+        self.assertEqual((0, f"assemble: made {self.top}/dist\n", ""),
+                         self.make("dist/lib/libtkcore.a"))
+        # (tkrun needs the true library)
+        (self.top / "dist/bin").mkdir()
+        (self.top / "dist/bin/tkrun").touch()
+
+    def install(self, libdir):
+        self.make_library()
+        status, said, errors = self.make("install", f"DESTDIR={self.room}/to", "PREFIX=/opt/tk",
+                                         f"LIBDIR={libdir}")
+        self.assertEqual((0, ""), (status, errors))
+        prefix = self.room / "to/opt/tk"
+        for name in ("include/tkcore.h", f"{libdir}/libtkcore.a", f"{libdir}/{SHARED}",
+                     f"{libdir}/pkgconfig/tkcore.pc", "share/man/man3/tkcore.3"):
+            self.assertIn(f"{prefix}/{name}", said.split())
+            self.assertTrue((prefix / name).is_file(), name)
+        self.assertEqual(SHARED, str((prefix / libdir / "libtkcore.so").readlink()))
+        return prefix
+
+    def check_pkg_config(self, prefix, libdir):
+        """pkg-config's flags build a program that finds the library there."""
+        flags = subprocess.run(["pkg-config", "--cflags", "--libs", "tkcore"], check=True,
+                               capture_output=True, text=True, env={
+                                   **os.environ, "PKG_CONFIG_PATH": prefix / libdir / "pkgconfig"})
+        subprocess.run(["gcc", "-x", "c", "-", "-o", self.room / "caller", *flags.stdout.split()],
+                       input=CALLER, text=True, check=True)
+        subprocess.run([self.room / "caller"], check=True,
+                       env={"LD_LIBRARY_PATH": prefix / libdir})
+
+    def check_cmake(self, prefix, libdir):
+        project = self.room / "project"
+        project.mkdir()
+        shutil.copy(TOP / "tests/c/CMakeLists.txt", project)
+        (project / "convert.c").write_text(CALLER, encoding="utf-8")
+        for words in (["-S", project, "-B", project / "out", "-DWANTED=0",
+                       f"-Dtkcore_DIR={prefix}/{libdir}/cmake/tkcore"],
+                      ["--build", project / "out"]):
+            subprocess.run(["cmake", *words], check=True, capture_output=True)
+        for name in "shared", "static":
+            subprocess.run([project / "out" / name], check=True)
+
+    def test_the_library_is_installed_where_each_system_looks_for_it(self):
+        for libdir in "lib", "lib64", "lib/x86_64-linux-gnu":
+            with self.subTest(libdir):
+                prefix = self.install(libdir)
+                if shutil.which("pkg-config"):
+                    self.check_pkg_config(prefix, libdir)
+                if shutil.which("cmake"):
+                    self.check_cmake(prefix, libdir)
+                    shutil.rmtree(self.room / "project")
+                shutil.rmtree(self.room / "to")
+
+    def test_the_archive_is_the_same_in_another_folder(self):
+        self.make_library()
+        once = [(self.top / "dist/lib" / name).read_bytes() for name in ("libtkcore.a", SHARED)]
+        other = self.room / "another/folder"
+        shutil.copytree(self.top, other)
+        self.top = other
+        self.make_library()
+        self.assertEqual(once, [(self.top / "dist/lib" / name).read_bytes()
+                                for name in ("libtkcore.a", SHARED)])
+
+    def test_a_changed_text_is_found(self):
+        self.text.write_text(text().replace("$7", "$8"), encoding="utf-8")
+        status, said, errors = self.make("check")
+        self.assertEqual((2, "x86_64/tkcore.s: FAILED\n"), (status, said))
+        self.assertIn("make: a text in release/ isn't the one that release/MANIFEST lists\n", errors)
+
+    def test_a_function_that_the_header_lacks_is_found(self):
+        self.text.write_text(text() + ".text\n.globl tkc_more\ntkc_more: ret\n", encoding="utf-8")
+        status, _, errors = self.make("dist/lib/libtkcore.a")
+        self.assertEqual(2, status)
+        self.assertIn("> tkc_more\n", errors)
+        self.assertIn("the header (<) and the shared object (>) have other functions\n", errors)
+
+    def test_an_unknown_function_that_the_text_calls_is_found(self):
+        self.text.write_text(text() + ".text\ncall there\n", encoding="utf-8")
+        status, _, errors = self.make("dist/lib/libtkcore.a")
+        self.assertEqual(2, status)
+        self.assertIn("tools/c/folder: the archive needs of other files: there\n", errors)
+
+    def fails(self, sentence, *words):
+        status, said, errors = self.make("dist/lib/libtkcore.a", *words)
+        self.assertEqual((2, ""), (status, said))
+        lines = [it for it in errors.splitlines() if not it.startswith("make: ***")]
+        self.assertEqual([sentence], lines)
+
+    def test_another_processor_is_one_sentence(self):
+        self.stand_in("cross-gcc", "echo riscv64-linux-gnu")
+        self.fails("assemble: cross-gcc builds for riscv64-linux-gnu, and release/ has no tkcore.s "
+                   "for it", "CC=cross-gcc")
+
+    def test_a_missing_assembler_is_one_sentence(self):
+        self.stand_in("lone-gcc", '[ "$1" != -dumpmachine ] || exec echo x86_64-linux-gnu\nexit 1')
+        self.fails("assemble: lone-gcc finds no assembler: install binutils", "CC=lone-gcc")
+
+    def test_a_missing_compiler_is_one_sentence(self):
+        status, _, errors = self.run_tool("tools/assemble", "library", top=self.top)
+        self.assertEqual((0, ""), (status, errors))
+        os.environ["CC"] = "no-such-compiler"
+        self.addCleanup(os.environ.pop, "CC")
+        self.assertEqual((1, "", "assemble: there is no C compiler no-such-compiler\n"),
+                         self.run_tool("tools/assemble", "library", top=self.top))
+
+    def test_other_arguments_are_refused(self):
+        usage = "usage: tools/assemble library|program [FOLDER]\n"
+        self.assertEqual((0, usage, ""), self.run_tool("tools/assemble", "--help", top=self.top))
+        for words in [], ["all"], ["library", "one", "two"]:
+            with self.subTest(words):
+                self.assertEqual((2, "", usage),
+                                 self.run_tool("tools/assemble", *words, top=self.top))
+
+
+if __name__ == "__main__":
+    unittest.main()

@@ -1,0 +1,134 @@
+"""What tools/release writes, compares and says."""
+import contextlib
+import importlib.util
+import io
+import pathlib
+import re
+import sys
+import unittest
+from importlib.machinery import SourceFileLoader
+from unittest import mock
+
+from tools import TOP, Case
+
+sys.path.insert(0, str(TOP / "tools"))
+LOADER = SourceFileLoader("release", str(TOP / "tools/release"))
+release = importlib.util.module_from_spec(importlib.util.spec_from_loader("release", LOADER))
+LOADER.exec_module(release)
+manifest, making = release.manifest, release.making
+
+
+class Release(Case):
+    def setUp(self):
+        super().setUp()
+        self.folder = self.room / "release"
+        self.folder.mkdir()
+        self.enterContext(mock.patch.object(release, "RELEASE", self.folder))
+        self.texts = {"library": {"x86_64/tkcore.s": b"one", "aarch64/tkcore.s": b"two"},
+                      "program": {"x86_64/program.s.gz": b"three"}}
+        self.enterContext(mock.patch.dict(making.PARTS, {
+            name: lambda _, out, name=name: self.make(name, out) for name in self.texts}))
+        self.enterContext(mock.patch.object(release.rattle, "require_logic"))
+
+    def make(self, part, out):
+        """Stands in for what proves and compiles a part."""
+        lines = ["kit: one", "tk_c: logic=proved"]
+        for name, content in self.texts[part].items():
+            (out / name).parent.mkdir(parents=True, exist_ok=True)
+            (out / name).write_bytes(content)
+            lines.append(manifest.line_of(out / name, name))
+        return lines
+
+    def run_release(self, *words):
+        """Returns the status, the output and the errors."""
+        out, errors = io.StringIO(), io.StringIO()
+        with mock.patch.object(sys, "argv", ["release", *words]), \
+                contextlib.redirect_stdout(out), contextlib.redirect_stderr(errors):
+            try:
+                status = int(release.main())
+            except SystemExit as ended:
+                status = ended.code
+        return status, out.getvalue(), errors.getvalue()
+
+    def test_each_part_is_written_with_its_lines(self):
+        self.assertEqual((0, "", ""), self.run_release("library"))
+        self.assertEqual((0, "", ""), self.run_release("program"))
+        parts = manifest.read(self.folder)
+        self.assertEqual(["library", "program"], sorted(parts))
+        self.assertEqual(["kit: one", "tk_c: logic=proved"], parts["program"][:2])
+        self.assertEqual(["aarch64/tkcore.s", "x86_64/program.s.gz", "x86_64/tkcore.s"],
+                         sorted(manifest.files(parts)))
+
+    def test_the_same_release_is_verified(self):
+        self.run_release("library", "program")
+        said = "tools/release: release/ is what was made again, byte for byte\n"
+        self.assertEqual((0, said, ""), self.run_release("--verify"))
+
+    def test_what_differs_is_named(self):
+        self.run_release("library", "program")
+        (self.folder / "aarch64/tkcore.s").write_bytes(b"twO")
+        self.assertEqual((1, "tools/release: differs: aarch64/tkcore.s\n", ""),
+                         self.run_release("--verify"))
+        self.texts["program"]["x86_64/program.s.gz"] = b"another"
+        self.assertEqual(
+            (1, "tools/release: differs: MANIFEST aarch64/tkcore.s x86_64/program.s.gz\n", ""),
+            self.run_release("--verify"))
+
+    def test_what_is_not_proved_ends_it(self):
+        self.enterContext(mock.patch.dict(making.PARTS, {"library": self.not_proved}))
+        self.assertEqual((1, "", "tools/release: tk_c isn't built\n"), self.run_release("library"))
+
+    def not_proved(self, *_):
+        raise making.Failed("tk_c isn't built")
+
+    def test_a_built_library_is_compared_with_the_text(self):
+        self.run_release("library")
+        built = self.room / "dist"
+        built.mkdir()
+        why = f"tools/release: {built}/tkcore.s isn't there; tools/build_c makes it\n"
+        self.assertEqual((1, "", why), self.run_release("--compare", str(built)))
+        (built / "tkcore.s").write_bytes(b"two")
+        self.assertEqual((0, "", ""), self.run_release("--compare", str(built), "aarch64"))
+        why = (f"tools/release: {self.folder}/x86_64/tkcore.s isn't the proved library's text: "
+               "tools/release library makes it anew\n")
+        self.assertEqual((1, "", why), self.run_release("--compare", str(built)))
+
+    def test_the_texts_contain_functions_of_the_librarys_crates_only(self):
+        crates = {"tk_counter", "tk_clock", "tk_lanes", "tk_line", "tk_ntp", "tk_c"}
+        for path in sorted(TOP.glob("release/*/tkcore.s")):
+            text = path.read_text(encoding="utf-8")
+            named = set(re.findall(r'\.section "?\.(?:text|rodata)(?:\.unlikely)?\.([\w:]+)', text))
+            self.assertGreater(len(named), 40)
+            # (cst16 contains constants of 16 bytes)
+            self.assertEqual([], sorted(it for it in named if not it.startswith(("tkc_", "cst"))
+                                        and it.partition("::")[0] not in crates))
+
+    def test_the_manifest_lists_the_texts_of_the_tree(self):
+        parts = manifest.read(TOP / "release")
+        lines = {line for part in parts.values() for line in part}
+        for path in sorted(TOP.glob("release/*/*")):
+            name = path.relative_to(TOP / "release").as_posix()
+            self.assertIn(manifest.line_of(path, name), lines)
+            self.assertIn(name, manifest.files(parts))
+
+    def test_other_arguments_are_refused(self):
+        for words in ([], ["all"], ["--verify", "library"], ["--compare", "dist", "riscv64"],
+                      ["--compare", "dist", "--verify"]):
+            with self.subTest(words):
+                status, said, errors = self.run_release(*words)
+                self.assertEqual((2, ""), (status, said))
+                self.assertTrue(errors.endswith("release: error: other arguments\n"))
+
+    def test_the_sum_of_the_sources_depends_on_each_file(self):
+        top = self.copy("crates.txt", "crates/tk_counter")
+        with mock.patch.object(release.rattle, "ROOT", top):
+            crate = release.rattle.crates()["tk_counter"]
+            before = making.sources([crate])
+            path = next(pathlib.Path(top, "crates/tk_counter/src").glob("*.rt"))
+            path.write_text(path.read_text(encoding="utf-8") + "\n", encoding="utf-8")
+            self.assertNotEqual(before, making.sources([crate]))
+            self.assertRegex(before, r"\Asources: [0-9a-f]{64} of \d+ files\Z")
+
+
+if __name__ == "__main__":
+    unittest.main()

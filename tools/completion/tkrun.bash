@@ -1,0 +1,28 @@
+# SPDX-License-Identifier: MIT OR Apache-2.0
+# Completes the arguments of tkrun in bash: its options, and after -- a program and its arguments.
+_tkrun()
+{
+    local word=${COMP_WORDS[COMP_CWORD]} before=${COMP_WORDS[COMP_CWORD - 1]} at
+    local options='--counter --hz --bits --maxsec --error-ppm --speed --start --ahead --uptime
+        --script --record --every --reads --check --deny-set --stamps --log --lax --static --quiet
+        --help --version --'
+    for ((at = 1; at < COMP_CWORD; at++)); do
+        if [ "${COMP_WORDS[at]}" = -- ]; then
+            if ((at + 1 < COMP_CWORD)); then
+                mapfile -t COMPREPLY < <(compgen -f -- "$word")
+            else
+                mapfile -t COMPREPLY < <(compgen -c -- "$word")
+            fi
+            return
+        fi
+    done
+    case $before in
+    --counter) mapfile -t COMPREPLY < <(compgen -W 'raw tsc sleeps' -- "$word") ;;
+    --script | --record | --log) mapfile -t COMPREPLY < <(compgen -f -- "$word") ;;
+    --hz | --bits | --maxsec | --error-ppm | --speed | --start | --ahead | --uptime | --every | --reads)
+        COMPREPLY=()
+        ;;
+    *) mapfile -t COMPREPLY < <(compgen -W "$options" -- "$word") ;;
+    esac
+}
+complete -o filenames -F _tkrun tkrun
