@@ -72,9 +72,9 @@ void signals_end_early(void)
 	}
 }
 
+/* SIGINT isn't ignored: one that is pending would be lost, and the run would go on. */
 void signals_ignore(void)
 {
-	signal(SIGINT, SIG_IGN);
 	signal(SIGQUIT, SIG_IGN);
 	signal(SIGPIPE, SIG_IGN); /* nobody reads the summary */
 }
@@ -100,6 +100,8 @@ void signals_pass_to(pid_t process)
 	struct sigaction action = { .sa_handler = pass, .sa_flags = SA_RESTART };
 
 	passed_to = process;
+	/* drops one that came before */
+	signal(SIGQUIT, SIG_IGN);
 	for (size_t i = 0; i < ENDS_COUNT; i++) {
 		if (!was_ignored(i))
 			sigaction(CHANGED[i], &action, NULL);

@@ -1,4 +1,5 @@
 """What the tests of tkrun share."""
+import faulthandler
 import os
 import pathlib
 import re
@@ -79,6 +80,9 @@ print(second, pair[0], library.time(None))
 
 class RunTest(unittest.TestCase):
     def setUp(self):
+        # a test that waits for ever ends the run, and says where it waits
+        faulthandler.dump_traceback_later(2 * SECONDS, exit=True)
+        self.addCleanup(faulthandler.cancel_dump_traceback_later)
         self.folder = pathlib.Path(tempfile.mkdtemp(prefix="tkrun-test."))
         self.addCleanup(shutil.rmtree, self.folder)
 

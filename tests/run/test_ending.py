@@ -7,7 +7,7 @@ import subprocess
 import time
 import unittest
 
-from runs import CAN_TRACE, STILL, TKRUN, RunTest, program, wait_until
+from runs import CAN_TRACE, STILL, TKRUN, RunTest, call, program, wait_until
 
 # these go on after SIGTERM and SIGINT: one waits, and one computes
 STUBBORN = ("trap '' TERM INT; (while :; do :; done) & (exec sleep 1000) & echo $!; echo up; "
@@ -69,6 +69,17 @@ class Ending(RunTest):
                 os.kill(int(lines[0]), second)
                 self.end(run, 128 + signal.SIGKILL)
 
+    @unittest.skipUnless(CAN_TRACE, "no process may be traced")
+    def test_a_signal_while_the_program_starts(self):
+        # it comes before the call that runs the program, at each fifth stop, up to tkrun's own wait
+        stop, waits = 0, ""
+        while not waits:
+            run = call(["env", "--default-signal", program("signal_at"), str(stop), TKRUN,
+                        "--quiet", "--", "sleep", "1000"])
+            self.assertEqual((run.returncode, run.stderr), (128 + signal.SIGINT, ""), stop)
+            waits, stop = run.stdout, stop + 5
+        self.assertEqual(waits, "waits\n")
+
     def test_a_signal_that_was_ignored(self):
         # if SIGINT counted, SIGTERM would be the second signal, which only ends
         run, _ = self.begin("--", "bash", "-c", "trap 'exit 5' TERM; echo up; sleep 1000 & wait",
@@ -90,6 +101,12 @@ class Ending(RunTest):
         # if SIGHUP counted, this would be the second signal, which ends by SIGKILL
         run.terminate()
         self.end(run, 128 + signal.SIGTERM)
+
+    def test_a_quit_is_ignored(self):
+        # it would end the comparison that follows the run
+        run = call(["env", "--default-signal", TKRUN, "--quiet", "--check", "--", "bash", "-c",
+                    "kill -QUIT $PPID; sleep 1"])
+        self.assertEqual((run.returncode, run.stderr), (0, ""))
 
     def test_processes_that_a_session_has_left(self):
         run, lines = self.begin("--", "bash", "-c", "echo $$; setsid bash -c 'trap \"\" TERM; "
