@@ -10,6 +10,7 @@ from checks.stops import Stops  # noqa: E402
 
 CHECKS = ("check_docs", "must_fail", "tests/tools", "check_using", "rt ci", "check_c",
           "check_bindings", "check_program", "check_run", "check_kernel", "check_web")
+LIMIT_SEC = 3600  # no check but the proofs takes longer, on two processors too
 
 
 def check_all(run):
@@ -61,7 +62,8 @@ def prove(run, proofs, libraries, built):
             start_all()
 
     # `rt ci`, and some wrong edits next to it
-    run.start("rt ci", "tools/must_fail", "--ci", proofs, "--libraries", libraries)
+    run.start("rt ci", "tools/must_fail", "--ci", proofs, "--libraries", libraries,
+              is_limited=False)
     run.end("rt ci", start_if_ready)
     start_all()
 
@@ -73,7 +75,7 @@ def main():
     given = read.parse_args()
     rattle.require_logic(".ci/run")
     is_strict = given.install or os.environ.get("CI") == "true"
-    run = Run(CHECKS, rattle.ROOT, is_strict, Stops())
+    run = Run(CHECKS, rattle.ROOT, is_strict, Stops(), int(os.environ.get("CI_LIMIT", LIMIT_SEC)))
     try:
         if is_strict:
             run.install()

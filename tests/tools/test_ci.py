@@ -300,6 +300,15 @@ class Ci(Case):
         self.assertEqual(0, self.run_ci()[0])
         self.check_ended(left)
 
+    def test_a_check_that_does_not_end_is_ended_and_named(self):
+        left = self.room / "left"
+        self.stub("check_run", f"sleep 3600 & echo $! >{left}\nwait")
+        self.addCleanup(os.environ.pop, "CI_LIMIT")
+        os.environ["CI_LIMIT"] = "20"
+        status, verdicts, _, _ = self.run_ci()
+        self.assertEqual((1, "failed: it hadn't ended after 20 s"), (status, verdicts["check_run"]))
+        self.check_ended(left)
+
     def test_other_arguments_are_refused(self):
         status, said, errors = self.run_tool(".ci/run", "--instal1", top=self.top)
         self.assertEqual((2, ""), (status, said))

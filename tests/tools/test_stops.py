@@ -16,7 +16,7 @@ class Popen(subprocess.Popen):
         pathlib.Path("number").write_text(str(self.pid))
         signal.raise_signal(int(sys.argv[3]))
 subprocess.Popen = Popen
-ran = run.Run(["a check"], pathlib.Path.cwd(), True, stops.Stops())
+ran = run.Run(["a check"], pathlib.Path.cwd(), True, stops.Stops(), 60)
 try:
     if sys.argv[2] == "check":
         ran.start("a check", "sleep", "3600")

@@ -14,10 +14,11 @@ GRACE = 10  # s that a command has to end after SIGTERM
 class Job:
     """A command that runs. Its output goes into a file."""
 
-    def __init__(self, command, output, is_beside):
-        """Starts a command; beside others, mostly on the processors that they leave idle."""
+    def __init__(self, command, output, is_beside, limit_sec=None):
+        """Starts a command; beside others, mostly on the processors that they leave idle. It is
+        ended if it takes longer than the limit."""
         self.output = pathlib.Path(output)
-        self.started = time.monotonic()
+        self.started, self.limit_sec = time.monotonic(), limit_sec
         words = [*(["nice", "-n", str(BESIDE)] if is_beside else []), *map(str, command)]
         with open(self.output, "wb") as file:
             self.process = subprocess.Popen(words, stdin=subprocess.DEVNULL, stdout=file,
@@ -26,11 +27,17 @@ class Job:
         self.status = None
         self.wall_sec = self.processor_sec = 0
 
+    def is_over(self):
+        """Whether the command has taken longer than its limit."""
+        return self.limit_sec is not None and time.monotonic() - self.started > self.limit_sec
+
     def has_ended(self):
         """Whether the command has ended. What it left in its group is ended then."""
         if self.status is not None:
             return True
         if not os.waitid(os.P_PID, self.number, os.WEXITED | os.WNOHANG | os.WNOWAIT):
+            if self.is_over():
+                self.signal(signal.SIGKILL)
             return False
         # (its number can't be another group's as long as it isn't waited for)
         self.signal(signal.SIGKILL)

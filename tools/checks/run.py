@@ -18,9 +18,11 @@ def time_of(sec):
 class Run:
     """A run of CI in a temporary folder."""
 
-    def __init__(self, names, top, is_strict, stops):
-        """Begins a run of these checks. If it is strict, packages were to be installed for it."""
+    def __init__(self, names, top, is_strict, stops, limit_sec):
+        """Begins a run of these checks. If it is strict, packages were to be installed for it. A
+        check that takes longer than the limit is ended."""
         self.top, self.is_strict, self.stops = top, is_strict, stops
+        self.limit_sec = limit_sec
         self.started = time.monotonic()
         self.work = pathlib.Path(tempfile.mkdtemp(prefix="ci-"))
         self.jobs, self.begun, self.installing = {}, set(), None
@@ -55,7 +57,7 @@ class Run:
             packages.installed.cache_clear()
         self.installing = None
 
-    def start(self, name, *command, is_beside=False):
+    def start(self, name, *command, is_beside=False, is_limited=True):
         """Starts a check unless it was started, or a package isn't there that all of it needs.
 
         If any of its packages isn't there, it first waits until those are installed that can be.
@@ -72,7 +74,8 @@ class Run:
             self.verdicts[name] = verdict.Verdict(name, word, " ".join(missing))
             return
         with self.stops.held():
-            self.jobs[name] = Job(command, self.work / name.replace("/", "-"), is_beside)
+            self.jobs[name] = Job(command, self.work / name.replace("/", "-"), is_beside,
+                                  self.limit_sec if is_limited else None)
 
     def end(self, name, meanwhile=lambda: None):
         """Waits for a check, prints what it prints, and judges it.

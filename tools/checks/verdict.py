@@ -52,7 +52,9 @@ def judge(name, job, output, is_strict):
     parts = left_out(name, output)
     verdict = Verdict(name, "ran", "", parts, job.wall_sec, job.processor_sec)
     idle = [what for what, why in parts if could_run(name, why)]
-    if job.status:
+    if job.status and job.limit_sec and job.wall_sec > job.limit_sec:
+        verdict.word, verdict.why = "failed", f"it hadn't ended after {job.limit_sec} s"
+    elif job.status:
         verdict.word, verdict.why = "failed", f"status {job.status}"
     elif is_strict and idle:
         verdict.word, verdict.why = "failed", f"left out with its packages installed: {idle[0]}"
