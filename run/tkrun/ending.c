@@ -7,6 +7,7 @@
 #include "tkrun.h"
 #include "processes/uncovered.h"
 
+#include <errno.h>
 #include <stdio.h>
 
 enum {
@@ -58,10 +59,21 @@ static sigset_t end_signals(void)
 	return ends;
 }
 
+/* Waits for the next signal, or for the grace. A stop of tkrun interrupts the call, and doesn't
+ * change when the grace ends. */
+static void wait_grace(const sigset_t *ends)
+{
+	uint64_t now = host_nanos(CLOCK_MONOTONIC), end = now + GRACE_NANOS;
+	struct timespec left = span_of(GRACE_NANOS);
+
+	while (sigtimedwait(ends, NULL, &left) < 0 && errno == EINTR) {
+		now = host_nanos(CLOCK_MONOTONIC);
+		left = span_of(now < end ? end - now : 0);
+	}
+}
+
 static void *wait_for_end(void *argument)
 {
-	static const struct timespec GRACE = { GRACE_NANOS / NANOS,
-					       GRACE_NANOS % NANOS };
 	static struct tree tree;
 	sigset_t ends = end_signals();
 	siginfo_t info;
@@ -69,7 +81,7 @@ static void *wait_for_end(void *argument)
 	while (sigwaitinfo(&ends, &info) < 0)
 		;
 	pass_on(&tree, &info);
-	sigtimedwait(&ends, NULL, &GRACE);
+	wait_grace(&ends);
 	kill_all(&tree);
 	return argument;
 }

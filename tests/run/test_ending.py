@@ -9,6 +9,8 @@ import unittest
 
 from runs import CAN_TRACE, STILL, TKRUN, RunTest, call, program, wait_until
 
+SIGTIMEDWAIT = "128"  # the number of rt_sigtimedwait
+
 # these go on after SIGTERM and SIGINT: one waits, and one computes
 STUBBORN = ("trap '' TERM INT; (while :; do :; done) & (exec sleep 1000) & echo $!; echo up; "
             "wait; sleep 1000")
@@ -68,6 +70,39 @@ class Ending(RunTest):
                 self.assertEqual(run.stdout.readline(), "waits\n")
                 os.kill(int(lines[0]), second)
                 self.end(run, 128 + signal.SIGKILL)
+
+    @unittest.skipUnless(CAN_TRACE, "no process may be traced")
+    def test_an_interruption_neither_ends_nor_renews_the_second(self):
+        # a tracer lets the second pass, and the wait fail with EINTR: the next one has no time left
+        run, lines = self.begin("--", "bash", "-c", f"echo $PPID; {STUBBORN}",
+                                tracer=[program("interrupted_grace")])
+        os.kill(int(lines[0]), signal.SIGTERM)
+        self.assertEqual(run.stdout.readline(), "0\n")
+        self.end(run, 128 + signal.SIGKILL)
+
+    def is_in_grace(self, process):
+        """Whether a thread of tkrun other than the first one waits for a signal, for a time."""
+        try:
+            calls = [(task / "syscall").read_text().split()
+                     for task in pathlib.Path(f"/proc/{process}/task").iterdir()
+                     if task.name != str(process)]
+        except OSError:  # it has ended
+            return False
+        return any(call[0] == SIGTIMEDWAIT and int(call[3], 16) for call in calls)
+
+    @unittest.skipUnless(CAN_TRACE, "no process may be traced")
+    def test_a_stop_of_tkrun_does_not_end_the_second(self):
+        run, _ = self.begin("--", "bash", "-c", STUBBORN)
+        start = time.monotonic()
+        run.terminate()
+        # on a busy machine the second may be over before it is seen
+        wait_until(lambda: run.poll() is not None or self.is_in_grace(run.pid))
+        run.send_signal(signal.SIGSTOP)
+        if run.returncode is None:
+            os.waitid(os.P_PID, run.pid, os.WSTOPPED | os.WEXITED | os.WNOWAIT)
+        run.send_signal(signal.SIGCONT)
+        self.end(run, 128 + signal.SIGKILL)
+        self.assertGreater(time.monotonic() - start, 0.99)
 
     @unittest.skipUnless(CAN_TRACE, "no process may be traced")
     def test_a_signal_while_the_program_starts(self):
