@@ -13,12 +13,12 @@ static const time_t START = 1000000000;
 
 typedef int gettime(clockid_t, struct timespec *);
 
-static bool is_after(time_t time, time_t start)
+static inline bool is_after(time_t time, time_t start)
 {
 	return time >= start && time < start + 100;
 }
 
-static void check_clocks(gettime *read)
+static inline void check_clocks(gettime *read)
 {
 	static const clockid_t REAL[] = { CLOCK_REALTIME, CLOCK_REALTIME_COARSE,
 					  CLOCK_TAI, CLOCK_REALTIME_ALARM };

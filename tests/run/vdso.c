@@ -7,8 +7,8 @@
  */
 #define _GNU_SOURCE
 #include "gettimes.h"
+#include "vdso_functions.h"
 
-#include <elf.h>
 #include <stdint.h>
 #include <stdio.h>
 #include <string.h>
@@ -19,36 +19,6 @@
 #include <unistd.h>
 
 static const char *base;
-
-/* Returns the address of a value of the dynamic section. */
-static const void *find_dynamic(int64_t tag)
-{
-	const Elf64_Ehdr *head = (const Elf64_Ehdr *)base;
-	const Elf64_Phdr *part = (const Elf64_Phdr *)(base + head->e_phoff);
-	const Elf64_Dyn *entry;
-
-	while (part->p_type != PT_DYNAMIC)
-		part++;
-	entry = (const Elf64_Dyn *)(base + part->p_offset);
-	while (entry->d_tag != tag)
-		entry++;
-	return base + entry->d_un.d_ptr;
-}
-
-/* Returns a function of the vDSO, or NULL. */
-static void *find_function(const char *name)
-{
-	const Elf64_Sym *symbols = find_dynamic(DT_SYMTAB);
-	const uint32_t *hash = find_dynamic(DT_HASH);
-	const char *names = find_dynamic(DT_STRTAB);
-
-	for (uint32_t i = 0; i < hash[1]; i++) {
-		if (symbols[i].st_shndx &&
-		    !strcmp(names + symbols[i].st_name, name))
-			return (void *)(base + symbols[i].st_value);
-	}
-	return NULL;
-}
 
 static int64_t micros_of(const struct timespec *time)
 {
@@ -71,16 +41,16 @@ static void check_micros(gettime *read, int (*read_micros)(struct timeval *, voi
 
 static void check_vdso(void)
 {
-	gettime *read = (gettime *)find_function("__vdso_clock_gettime");
-	gettime *resolve = (gettime *)find_function("__vdso_clock_getres");
+	gettime *read = (gettime *)find_function(base, "__vdso_clock_gettime");
+	gettime *resolve = (gettime *)find_function(base, "__vdso_clock_getres");
 	int (*read_micros)(struct timeval *, void *) =
 		(int (*)(struct timeval *, void *))find_function(
-			"__vdso_gettimeofday");
+			base, "__vdso_gettimeofday");
 	time_t (*read_second)(time_t *) =
-		(time_t (*)(time_t *))find_function("__vdso_time");
+		(time_t (*)(time_t *))find_function(base, "__vdso_time");
 	long (*find_processor)(unsigned int *, unsigned int *, void *) =
 		(long (*)(unsigned int *, unsigned int *, void *))find_function(
-			"__vdso_getcpu");
+			base, "__vdso_getcpu");
 	unsigned int processor = UINT32_MAX, node;
 	struct timespec time;
 	time_t second;
