@@ -1,4 +1,5 @@
 """Waits on counters that wrap, are slow, or run at another rate than the clocks believe."""
+import time
 import unittest
 
 from runs import CAN_FILTER, STILL, RunTest, program
@@ -74,6 +75,18 @@ class Counters(RunTest):
         return int(self.run_on(*STILL, "--start", 0, *options, "--", "bash", "-c",
                                f"{code}; date +%s").splitlines()[-1])
 
+    def test_what_is_left_of_an_alarm(self):
+        self.assertEqual(self.run_on(*STILL, "--", program("rests")), "")
+
+    def test_a_lead_over_the_hosts_clock(self):
+        for ahead in ["1000.75", "-1000.25", "0.5"]:
+            with self.subTest(ahead):
+                before = time.time_ns()
+                output = self.run_on(*STILL, "--ahead", ahead, "--", "date", "+%s%N")
+                host = int(output) - int(float(ahead) * 10**9)
+                self.assertLessEqual(before, host)
+                self.assertLessEqual(host, time.time_ns())
+
     def test_a_sleep_that_a_handler_leaves(self):
         self.assertEqual(self.clock_after(f"{program('left')} jump"), 102)
 
@@ -94,6 +107,10 @@ class Counters(RunTest):
     def test_an_alarm_of_a_process_that_executes_a_program(self):
         alarm = "exec 2>/dev/null; /usr/bin/perl -e 'alarm 5; exec @ARGV' "
         self.assertEqual(self.clock_after(alarm + "sleep 100"), 5)
+        # the parts of its second, too; a wait ends a cycle after its time
+        code = alarm.replace("-e 'alarm 5", "-MTime::HiRes=alarm -e 'alarm 5.25") + "sleep 100"
+        self.assertEqual(self.run_on(*STILL, "--start", 0, "--", "bash", "-c",
+                                     f"{code}; date +%s.%N").splitlines()[-1], "5.250000001")
         code = alarm + "/usr/bin/perl -e 'exit(alarm(0) != 5 || sleep(100) != 100)' || exit"
         self.assertEqual(self.clock_after(code), 100)
         # a child has no alarm
