@@ -2,9 +2,13 @@
 /*
  * Passes addresses to system calls about time that a program can't write to, and
  * some that it can. The results are the kernel's. Prints each that differs.
+ *
+ *     addresses         of clocks
+ *     addresses rest    of what is left of a sleep, on a counter of sleeps
  */
 #define _GNU_SOURCE
 #include <errno.h>
+#include <signal.h>
 #include <stdbool.h>
 #include <stdio.h>
 #include <stdlib.h>
@@ -12,6 +16,7 @@
 #include <sys/mman.h>
 #include <sys/syscall.h>
 #include <sys/timex.h>
+#include <sys/wait.h>
 #include <time.h>
 #include <unistd.h>
 
@@ -62,6 +67,9 @@ static void test_rights(int flags)
 	fails("PROT_NONE", none);
 	fails("PROT_READ", readable + 100);
 	fails("from a page into PROT_READ", readable - 8);
+	expect("the last bytes before PROT_READ",
+	       syscall(SYS_clock_gettime, CLOCK_REALTIME, readable - sizeof(struct timespec)),
+	       0);
 	mprotect(none, 2 * PAGE, PROT_READ);
 	if (!is_unchanged(none, 2 * PAGE) ||
 	    !is_unchanged(readable, 2 * PAGE))
@@ -83,10 +91,53 @@ static void test_writable(int flags)
 		printf("into two areas: another time\n");
 }
 
-int main(void)
+static void on_signal(int number)
+{
+	(void)number;
+}
+
+/* Sends a signal to a process after a second. A counter of sleeps moves only when tkrun has read of
+ * that process's own sleep. */
+static void interrupt(pid_t process)
+{
+	struct timespec span = { 1, 0 };
+
+	syscall(SYS_nanosleep, &span, NULL);
+	kill(process, SIGUSR1);
+	_exit(0);
+}
+
+static void sleep_until_signal(const char *name, char *rest, int error)
+{
+	struct timespec span = { 1000, 0 };
+	pid_t sleeper = getpid();
+
+	if (!fork())
+		interrupt(sleeper);
+	expect(name, syscall(SYS_nanosleep, &span, rest), error);
+	while (wait(NULL) > 0)
+		;
+}
+
+/* A signal interrupts a sleep whose rest can't be stored. */
+static void test_rest(void)
+{
+	struct sigaction action = { .sa_handler = on_signal };
+
+	sigaction(SIGUSR1, &action, NULL);
+	sleep_until_signal("a rest at NULL", NULL, EINTR);
+	sleep_until_signal("a rest at an address of the kernel", (char *)-PAGE, EFAULT);
+	sleep_until_signal("a rest in PROT_READ", map_pages(PROT_READ, MAP_PRIVATE), EFAULT);
+}
+
+int main(int count, char **words)
 {
 	struct timex request = { 0 };
 
+	if (count > 1 && !strcmp(words[1], "rest")) {
+		test_rest();
+		return 0;
+	}
 	fails("NULL", NULL);
 	fails("an address of the kernel", (char *)-PAGE);
 	fails("the last address", (char *)-1);

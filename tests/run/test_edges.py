@@ -3,7 +3,7 @@ calls, and how many the summary counts. The expected values are sums, or those o
 import re
 import unittest
 
-from runs import (CAN_FILTER, OTHER, STILL, TKRUN, RunTest, call, needs_mounts, needs_root, program)
+from runs import (CAN_FILTER, LINUX, OTHER, STILL, TKRUN, RunTest, call, needs_mounts, needs_root, program)
 
 # what a call returned, its errno, and by how many ns MONOTONIC has moved on: a wait adds a cycle
 EDGES = """\
@@ -136,6 +136,11 @@ class Edges(RunTest):
             self.assertEqual([answer.split()[:2] for answer in answers[:-1]],
                              [["-1", "EPERM"]] * len(FORBIDDEN), run.stderr)
             self.assertEqual(answers[-1], "0 - 5.000000000")
+
+    @unittest.skipUnless(CAN_FILTER, "the kernel lets no filter ask tkrun")
+    @unittest.skipIf(LINUX < (5, 19), "as in test_calls")
+    def test_a_rest_that_cannot_be_written(self):
+        self.assertEqual(self.run_on(*STILL, "--", program("static_addresses"), "rest"), "")
 
     @unittest.skipUnless(CAN_FILTER, "the kernel lets no filter ask tkrun")
     def test_wrong_sleeps_of_a_static_program(self):
