@@ -46,6 +46,13 @@ class Records(RunTest):
         self.assertIn("the program saw '1000000000.", run.stderr)
         self.assertIn("and tkcore gives 'at,realtime,1000000000.", run.stderr)
 
+    def test_the_first_differences_are_shown(self):
+        run = call([self.tkcore("sed 's/,realtime,/&1/'").parent / "tkrun", *STILL, "--start",
+                    "1000000000", "--check", "--", program("calls")], input="gettime 0\n" * 8)
+        self.assertEqual(run.returncode, 3)
+        self.assertEqual(run.stderr.count(": the program saw '1000000000.000000000'"), 5)
+        self.assertIn("tkrun: check: 8 lines differ from tkcore's\n", run.stderr)
+
     def test_a_command_that_differs(self):
         run = self.check_by("sed 's/^set,.*/update,0/'", *STILL, "--", "date", "-s",
                             "@9999999999")
@@ -119,8 +126,7 @@ with open({str(rows)!r}, "r+b") as file:
         run = self.start(*STILL, "--start", 1000000000, "--record", self.folder / "r", "--check",
                          "--", "/usr/bin/python3", "-c", code)
         self.assertEqual(run.returncode, 4, run.stderr)
-        self.assertRegex(run.stderr,
-                         "the record ends before command [0-9]+, which couldn't be recorded")
+        self.assertIn("the record ends before command 2, which couldn't be recorded", run.stderr)
         self.assertIn("check: tkcore gives each of the first", run.stderr)
         script = (self.folder / "r").read_text()
         self.assertIn(",2000000000,", script)

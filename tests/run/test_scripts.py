@@ -82,6 +82,25 @@ class Scripts(RunTest):
                 self.assertEqual(self.refuse(steered, ",".join(fields)), second)
         self.assertEqual(self.refuse(steered, "counter,0,64,1,0,0"), "record 2: unknown word")
 
+    def test_the_greatest_numbers(self):
+        # each is the greatest or least of its kind, and the set is refused as it would be by tkcore
+        lines = ["openhz,64,1000000000,1,18446744073709551615,1000000000,0",
+                 "get,18446744073709551615,realtime,18446744073709551615",
+                 "set,18446744073709551615,9223372036854775807,4294967295",
+                 "set,18446744073709551615,-9223372036854775808,4294967295",
+                 "tai,18446744073709551615,37"]
+        run = self.run_on(*STILL, "--script", self.file("s", "\n".join(lines)), "--check", "--",
+                          program("calls"))
+        self.assertEqual(run, "")
+        for number, line in enumerate(lines, 1):
+            for field in line.split(","):
+                if len(field) > 9 and field != "1000000000" and field.lstrip("-").isdigit():
+                    wrong = line.replace(field, field[:-1] + str(int(field[-1]) + 1))
+                    with self.subTest(wrong):
+                        script = [*lines[:number - 1], wrong]
+                        self.assertEqual(self.refuse(*script),
+                                         f"record {number}: not a number in range")
+
     def test_a_discipline_that_has_steered(self):
         record = self.folder / "r"
         self.run_on(*STILL, "--start", 1000000000, "--uptime", 60, "--record", record, "--",

@@ -61,6 +61,18 @@ class Uncovered(RunTest):
         run = self.start("--lax", "--", "bash", "-c", command)
         self.assertEqual(run.stderr.count(f"'{os.path.realpath(folder)}/./static_vdso'"), 1)
 
+    def test_a_warning_names_sixteen_programs(self):
+        for number in range(18):
+            shutil.copy(program("static_vdso"), self.folder / f"program{number}")
+        run = self.start("--quiet", "--lax", "--", "bash", "-c",
+                         f"for i in {{0..17}}; do {program('traced')} {self.folder}/program$i; done"
+                         " >/dev/null; exit 0")
+        lines = run.stderr.splitlines()
+        self.assertEqual((run.returncode, len(lines)), (0, 17), run.stderr)
+        for number, line in enumerate(lines[:16]):
+            self.assertIn(f"{self.folder}/program{number}' (process ", line)
+        self.assertEqual(lines[16], "tkrun: 2 more programs read the host's clocks")
+
     @needs_root("changes the root")
     def test_a_traced_program_that_does_not_find_the_library(self):
         root = self.make_root("sleep")
@@ -172,6 +184,14 @@ class Unfiltered(RunTest):
         for run in self.inside("--quiet", "--lax", "--", "env", "-i", "/bin/sleep", "2"):
             self.assertEqual(run.returncode, 0)
             self.assertRegex(run.stderr, "^tkrun: 'sleep' .process [0-9]+. reads the host's clocks")
+
+    @needs_root("becomes another user")
+    def test_another_user_reads_whatever_the_umask_is(self):
+        # no filter lets the library ask tkrun for the files of the clocks
+        run = call([program("filtered"), "deny", CALLS["seccomp"], "bash", "-c",
+                    'umask 077; exec "$@"', "bash", self.share() / "bin/tkrun", "--quiet", *STILL,
+                    "--start", str(START), "--", *OTHER, "date", "+%s"])
+        self.assertEqual((run.returncode, run.stdout, run.stderr), (0, f"{START}\n", ""))
 
     def test_a_static_program_is_not_started(self):
         for run in self.inside("--quiet", "--", program("static_vdso")):
