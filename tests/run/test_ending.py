@@ -1,13 +1,25 @@
 """Signals to tkrun: SIGTERM and SIGINT end all processes after a second, and the second one at
 once."""
+import fcntl
 import os
 import pathlib
+import pty
 import signal
 import subprocess
+import sys
+import termios
 import time
 import unittest
 
 from runs import CAN_TRACE, STILL, TKRUN, RunTest, call, program, wait_until
+
+# executes a program with a SIGINT that is blocked and pending
+PENDING = """import os, signal, sys
+signal.signal(signal.SIGINT, signal.Handlers({}))
+signal.pthread_sigmask(signal.SIG_BLOCK, [signal.SIGINT])
+os.kill(os.getpid(), signal.SIGINT)
+os.execv(sys.argv[1], sys.argv[1:])
+"""
 
 SIGTIMEDWAIT = "128"  # the number of rt_sigtimedwait
 
@@ -115,6 +127,17 @@ class Ending(RunTest):
             waits, stop = run.stdout, stop + 5
         self.assertEqual(waits, "waits\n")
 
+    def test_a_signal_that_is_pending_at_the_start(self):
+        # it was sent before tkrun was executed
+        made = self.folder / "made"
+        for handler, status in [(signal.SIG_IGN, 0), (signal.SIG_DFL, 128 + signal.SIGINT)]:
+            with self.subTest(handler):
+                made.unlink(missing_ok=True)
+                run = call([sys.executable, "-c", PENDING.format(int(handler)), TKRUN, "--quiet",
+                            "--", "touch", made])
+                self.assertEqual((run.returncode, run.stdout, run.stderr), (status, "", ""))
+                self.assertEqual(made.exists(), not status)
+
     def test_a_signal_that_was_ignored(self):
         # if SIGINT counted, SIGTERM would be the second signal, which only ends
         run, _ = self.begin("--", "bash", "-c", "trap 'exit 5' TERM; echo up; sleep 1000 & wait",
@@ -127,6 +150,25 @@ class Ending(RunTest):
         run, _ = self.begin("--", "bash", "-c", "trap 'exit 5' TERM; echo up; sleep 1000 & wait")
         run.terminate()
         self.end(run, 5)
+
+    def test_a_signal_of_the_terminal_comes_once(self):
+        # the terminal sends it to the program, which prints it before tkrun goes on
+        controller, terminal = pty.openpty()
+        self.addCleanup(os.close, controller)
+        self.addCleanup(os.close, terminal)
+        code = "$| = 1; $SIG{INT} = sub { print qq(int\n) }; print qq(up\n); sleep 1000 while 1"
+        run = subprocess.Popen([TKRUN, "--quiet", "--", "/usr/bin/perl", "-e", code], text=True,
+                               stdin=terminal, stdout=subprocess.PIPE, stderr=subprocess.PIPE,
+                               start_new_session=True,
+                               preexec_fn=lambda: fcntl.ioctl(0, termios.TIOCSCTTY, 0))
+        self.addCleanup(end_group, run)
+        self.assertEqual(run.stdout.readline(), "up\n")
+        run.send_signal(signal.SIGSTOP)
+        os.waitid(os.P_PID, run.pid, os.WSTOPPED)
+        os.write(controller, b"\3")
+        self.assertEqual(run.stdout.readline(), "int\n")
+        run.send_signal(signal.SIGCONT)
+        self.end(run, 128 + signal.SIGKILL)
 
     def test_a_hangup_is_only_passed_on(self):
         run, _ = self.begin("--", "bash", "-c",

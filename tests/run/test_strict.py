@@ -171,6 +171,12 @@ class Covered(RunTest):
         # a thread is traced until its call has succeeded
         self.covered("env", "-i", "/bin/sh", "-c", "PATH=/nowhere:/bin:/usr/bin; exec date +%s")
 
+    def test_a_signal_after_an_execution_that_failed(self):
+        # the thread is still traced when its signal comes
+        code = ("shopt -s execfail; exec /nowhere/program 2>/dev/null; trap 'echo got' USR1; "
+                "kill -USR1 $$; echo over")
+        self.assertEqual(self.run_on("--", "bash", "-c", code), "got\nover\n")
+
     def test_a_traced_program_with_the_library(self):
         for options in [[], ["--counter", "tsc"], ["--record", self.folder / "r"]]:
             with self.subTest(options):
