@@ -13,7 +13,7 @@
 #include <time.h>
 #include <unistd.h>
 
-static const struct itimerspec NEVER = { .it_value = { INT64_MAX, 0 } };
+static const struct itimerspec NEVER = { .it_value = { INT64_MAX, 999999999 } };
 static const clockid_t CLOCKS[] = { CLOCK_REALTIME, CLOCK_MONOTONIC,
 				    CLOCK_BOOTTIME };
 

@@ -33,9 +33,10 @@ class Calls(RunTest):
 
     def test_reads_and_sets_are_no_cancellation_points(self):
         for name in ["record", "log"]:
-            with self.subTest(name):
-                self.assertEqual(self.run_on(f"--{name}", self.folder / name, "--",
-                                             program("cancelled")), "")
+            for counter in [[], STILL]:
+                with self.subTest(name, counter=counter):
+                    self.assertEqual(self.run_on(*counter, f"--{name}", self.folder / name, "--",
+                                                 program("cancelled")), "")
 
     def test_steering(self):
         options = ["--counter", "sleeps", "--start", 1000000000]
@@ -170,7 +171,9 @@ class Calls(RunTest):
             "timer_span 2.000000001"])
 
     def test_a_step_is_seen_by_waits_on_a_running_counter(self):
-        script = self.file("s", "openhz,64,1000000000,1,0,1000,0\nstep,1000000000,100,0\n")
+        # an update at the same reading leaves that something has changed
+        script = self.file("s", "openhz,64,1000000000,1,0,1000,0\nstep,1000000000,100,0\n"
+                                "update,1000000000\n")
         output = self.run_on("--script", script, "--speed", 5, "--", program("steps"))
         ends = {line.split()[0]: float(line.split()[1]) for line in output.splitlines()}
         for name, end in [("absolute_sleep", 1), ("absolute_timerfd", 1), ("span", 2),

@@ -137,6 +137,15 @@ class Edges(RunTest):
                              [["-1", "EPERM"]] * len(FORBIDDEN), run.stderr)
             self.assertEqual(answers[-1], "0 - 5.000000000")
 
+    @needs_root("becomes another user")
+    @unittest.skipUnless(CAN_FILTER, "the kernel lets no filter ask tkrun")
+    def test_the_effective_user_of_a_static_program_counts(self):
+        for user, answer in [("--euid", "-1 EPERM"), ("--ruid", "0 -")]:
+            with self.subTest(user):
+                run = self.calls("static_calls", ["settime 0 1500000000 7"], "--quiet",
+                                 user=["setpriv", user, "65531"])
+                self.assertEqual((run.stdout, run.stderr), (f"{answer}\n", ""))
+
     @unittest.skipUnless(CAN_FILTER, "the kernel lets no filter ask tkrun")
     @unittest.skipIf(LINUX < (5, 19), "as in test_calls")
     def test_a_rest_that_cannot_be_written(self):

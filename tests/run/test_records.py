@@ -109,6 +109,15 @@ class Records(RunTest):
             self.assertIn(line, run.stderr)
         self.assertNotIn("\nset,", (self.folder / "r").read_text())
 
+    @needs("/usr/bin/perl")
+    def test_requests_at_the_end_of_a_chunk(self):
+        # a request has seven rows, which are in one of the chunks of 65,536 rows
+        code = "time for 1..65490; syscall(159, my $t = pack('L x4 q25', 0)) for 1..20"
+        run = self.start(*STILL, "--start", 1000000000, "--record", self.folder / "r", "--check",
+                         "--", "/usr/bin/perl", "-e", code)
+        self.assertEqual(run.returncode, 0, run.stderr)
+        self.assertEqual((self.folder / "r").read_text().count("\nadjtimex,"), 20)
+
     def spoil_row(self, at, value):
         """Runs a program that sets a word of the row of its second set to another value."""
         rows = self.folder / "r.rows"
@@ -198,6 +207,23 @@ with open({str(rows)!r}, "r+b") as file:
         self.assertRegex(run.stderr, f"the log ends before line {whole + 1}: "
                                      "(File too large|No space left on device)\n"
                                      f"tkrun: {30 - whole} lines aren't in the log\n")
+
+    @needs("/usr/bin/python3")
+    def test_a_log_leaves_a_signal_of_the_programs_own(self):
+        # a limit of 0 bytes stops the log, and a file of the program
+        code = f"""import os, signal, time
+signal.signal(signal.SIGXFSZ, signal.SIG_DFL)
+signal.pthread_sigmask(signal.SIG_BLOCK, [signal.SIGXFSZ])
+time.clock_settime(time.CLOCK_REALTIME, 2000000000)
+print(signal.SIGXFSZ in signal.sigpending())
+try:
+    os.write(os.open({str(self.folder / "own")!r}, os.O_CREAT | os.O_WRONLY), b"a")
+except OSError:
+    time.clock_settime(time.CLOCK_REALTIME, 2000000000)
+print(signal.SIGXFSZ in signal.sigpending())"""
+        run = self.start("--quiet", "--log", self.folder / "log", "--", "bash", "-c",
+                         'ulimit -f 0; exec /usr/bin/python3 -c "$1"', "bash", code)
+        self.assertEqual((run.returncode, run.stdout), (0, "False\nTrue\n"), run.stderr)
 
     def record_of(self, *options):
         """Records a program that reads and sleeps. Returns the number of reads in the record, and what

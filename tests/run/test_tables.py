@@ -108,6 +108,15 @@ SLEEPING = [
 ASLEEP_STEERING = ["adjtimex modes=2 freq=5", "sys_adjtimex modes=2 freq=5", "adjtimex modes=0",
                    "clock_adjtime 0 modes=16 status=64", "ntp_adjtime modes=0x100 sec=5 sub=5"]
 
+# after a suspension, BOOTTIME and its clock of alarms differ from MONOTONIC
+RESUMED = "openhz,64,1000000000,1,0,1000,0\nsuspend,0\nresume,0,3600,5\n"
+AWAKE = [
+    ("gettime 1", "0 - 0.000000000"), ("gettime 7", "0 - 3600.000000005"),
+    ("gettime 9", "0 - 3600.000000005"), ("gettime 0", "0 - 4600.000000005"),
+    ("gettime 8", "0 - 4600.000000005"), ("sys_gettime 9", "0 - 3600.000000005"),
+    ("sleep_until 9 3602 5", "0 - 2.000000001"), ("sleep_until 8 4604 5", "0 - 4.000000001"),
+]
+
 # calls that a program without the right to set a clock makes. The clocks of alarms, 8 and 9, depend on
 # the host's hardware
 REFUSED = [
@@ -137,7 +146,8 @@ REFUSED = [
     *(f"{call} {clock} modes={modes} freq=5" for call in ("clock_adjtime", "sys_clock_adjtime")
       for clock in (1, 4, 5, 6, 7, 8, 9, 10, 11, 77) for modes in (0, 2)),
     "adjtime 0 5", "adjtime", "adjtime 5000 0", "adjtime -5000 0", "adjtime 0 -5",
-    "adjtime 0 3000000000",
+    "adjtime 0 3000000000", "adjtime 2145 0", "adjtime 2146 0", "adjtime 2145 1000000",
+    "adjtime -2145 0", "adjtime -2146 0", "adjtime -2145 -1000000",
 ]
 
 
@@ -184,6 +194,9 @@ class Tables(RunTest):
             answers = self.listed(ASLEEP_STEERING, *STILL, "--script", script, name=name)
             self.assertEqual([answer.split()[:2] for answer in answers],
                              [["-1", "EAGAIN"]] * len(answers))
+
+    def test_calls_after_a_suspension(self):
+        self.check_table(AWAKE, *STILL, "--script", self.file("s", RESUMED))
 
     def test_refusals_are_those_of_the_host(self):
         for name in self.PROGRAMS:
