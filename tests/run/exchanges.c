@@ -130,7 +130,9 @@ static void print_settings(void)
 	print_setting("new", file);
 	print_setting("accepted", accepted);
 	close(accepted);
+	errno = 0;
 	accepted = socket(AF_INET, SOCK_DGRAM, 0);
+	printf("errno %d\n", errno);
 	set(accepted, 1, sizeof(int));
 	print_setting("datagrams", accepted);
 	print_setting("no file", -1);

@@ -1,12 +1,14 @@
 /* SPDX-License-Identifier: MIT OR Apache-2.0 */
 /*
  * Makes waits of a futex whose clock the operation chooses, with FUTEX_CLOCK_REALTIME. Prints
- * each that doesn't return what it returns without the C library.
+ * each that doesn't return what it returns without the C library. Then lets a wake end waits of one
+ * process and of several: the kernel finds a wait only by a wake of its own kind.
  */
 #define _GNU_SOURCE
 #include "faults.h"
 
 #include <linux/futex.h>
+#include <pthread.h>
 #include <stdint.h>
 #include <stdio.h>
 #include <sys/syscall.h>
@@ -40,6 +42,49 @@ static void compare(long operation, long value, struct timespec time)
 	CHECK(one == other);
 }
 
+enum { FOREVER_SEC = 100000 };
+
+static uint32_t word;
+static long kind;
+static _Atomic int woken;
+
+static void *wait_for_wake(void *unused)
+{
+	struct timespec span = { FOREVER_SEC, 0 }, until;
+
+	clock_gettime(CLOCK_MONOTONIC, &until);
+	until.tv_sec += FOREVER_SEC;
+	CHECK(!syscall(SYS_futex, &word, FUTEX_WAIT | kind, 0, &span, NULL, 0));
+	woken++;
+	CHECK(!syscall(SYS_futex, &word, FUTEX_WAIT_BITSET | kind, 0, &until, NULL, 1));
+	woken++;
+	return unused;
+}
+
+/* Wakes a thread twice. The wake of the other kind finds none. */
+static void check_wakes(void)
+{
+	pthread_t thread;
+
+	woken = 0;
+	pthread_create(&thread, NULL, wait_for_wake, NULL);
+	while (woken < 2) {
+		CHECK(!syscall(SYS_futex, &word, FUTEX_WAKE | (kind ^ FUTEX_PRIVATE_FLAG), 1));
+		syscall(SYS_futex, &word, FUTEX_WAKE | kind, 1);
+	}
+	pthread_join(thread, NULL);
+}
+
+/* Waits for several futexes until a time before 0. An old kernel has no such call. */
+static void check_wrong_times(void)
+{
+	struct futex_waitv futex = { .uaddr = (uintptr_t)&word, .flags = FUTEX_32 };
+	struct timespec before = { -1, 0 };
+
+	CHECK(syscall(SYS_futex_waitv, &futex, 1, 0, &before, CLOCK_MONOTONIC) == -1);
+	CHECK(errno == EINVAL || errno == ENOSYS);
+}
+
 int main(void)
 {
 	static const long OPERATIONS[] = { FUTEX_WAIT, FUTEX_WAIT_PRIVATE,
@@ -54,5 +99,9 @@ int main(void)
 		compare(operation, 0, (struct timespec){ 0, -1 });
 		compare(operation, 0, (struct timespec){ -1, 0 });
 	}
+	check_wakes();
+	kind = FUTEX_PRIVATE_FLAG;
+	check_wakes();
+	check_wrong_times();
 	return faults > 0;
 }

@@ -8,6 +8,7 @@ import signal
 import socket
 import subprocess
 import tempfile
+import threading
 import time
 import unittest
 
@@ -78,6 +79,12 @@ print(second, pair[0], library.time(None))
 """
 
 
+def end_group(process):
+    """Ends a process that was started in a session of its own, with all that it has started."""
+    if process.poll() is None:
+        os.killpg(process.pid, signal.SIGKILL)
+
+
 class RunTest(unittest.TestCase):
     def setUp(self):
         # a test that waits for ever ends the run, and says where it waits
@@ -85,6 +92,20 @@ class RunTest(unittest.TestCase):
         self.addCleanup(faulthandler.cancel_dump_traceback_later)
         self.folder = pathlib.Path(tempfile.mkdtemp(prefix="tkrun-test."))
         self.addCleanup(shutil.rmtree, self.folder)
+
+    def begin(self, *command, **options):
+        """Starts a command, and returns its process, whose output can be read. It is ended with the
+        test, or if it takes too long: so a line that never comes is an empty one."""
+        given = {"stdout": subprocess.PIPE, "text": True, "start_new_session": True, **options}
+        process = subprocess.Popen(list(map(str, command)), **given)
+        limit = threading.Timer(SECONDS, end_group, [process])
+        limit.start()
+        for file in filter(None, (process.stdin, process.stdout, process.stderr)):
+            self.addCleanup(file.close)
+        self.addCleanup(process.wait)
+        self.addCleanup(end_group, process)
+        self.addCleanup(limit.cancel)
+        return process
 
     def start(self, *arguments, env=None):
         """Runs tkrun with these arguments."""

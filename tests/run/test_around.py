@@ -11,9 +11,8 @@ from runs import (IS_ROOT, OTHER, STILL, TKRUN, RunTest, call, needs_mounts, nee
 
 class Around(RunTest):
     def test_two_at_once(self):
-        first = subprocess.Popen([TKRUN, "--quiet", *STILL, "--start", "1000000000", "--", "bash",
-                                  "-c", "read; date +%s"], stdin=subprocess.PIPE,
-                                 stdout=subprocess.PIPE, text=True)
+        first = self.begin(TKRUN, "--quiet", *STILL, "--start", 1000000000, "--", "bash", "-c",
+                           "read; date +%s", stdin=subprocess.PIPE)
         self.assertEqual(self.run_on(*STILL, "--start", 2000000000, "--", "date", "+%s"),
                          "2000000000\n")
         self.assertEqual(first.communicate("\n")[0], "1000000000\n")
@@ -35,33 +34,27 @@ class Around(RunTest):
 
     def test_a_summary_that_nobody_reads(self):
         # the program prints the folder, which is removed also if the summary can't be written
-        run = subprocess.Popen([TKRUN, "--", "bash", "-c", "echo $TKRUN; read; exit 7"],
-                               stdin=subprocess.PIPE, stdout=subprocess.PIPE,
-                               stderr=subprocess.PIPE, text=True)
+        run = self.begin(TKRUN, "--", "bash", "-c", "echo $TKRUN; read; exit 7",
+                         stdin=subprocess.PIPE, stderr=subprocess.PIPE)
         folder = pathlib.Path(run.stdout.readline().strip())
         self.assertTrue(folder.exists())
         run.stderr.close()
         run.stdin.close()
         self.assertEqual(run.wait(100), 7)
         self.assertFalse(folder.exists())
-        run.stdout.close()
 
     def test_a_signal_is_passed_on(self):
-        run = subprocess.Popen([TKRUN, "--quiet", "--", "bash", "-c", "echo up; exec sleep 100"],
-                               stdout=subprocess.PIPE, text=True)
+        run = self.begin(TKRUN, "--quiet", "--", "bash", "-c", "echo up; exec sleep 100")
         self.assertEqual(run.stdout.readline(), "up\n")
         run.terminate()
         self.assertEqual(run.wait(100), 143)
-        run.stdout.close()
 
     def test_a_signal_after_the_program_ends_what_it_left(self):
-        run = subprocess.Popen([TKRUN, "--quiet", "--", "bash", "-c",
-                                "sleep 100 & echo $$; exit 7"], stdout=subprocess.PIPE, text=True)
+        run = self.begin(TKRUN, "--quiet", "--", "bash", "-c", "sleep 100 & echo $$; exit 7")
         process = int(run.stdout.readline())
         wait_until(lambda: not pathlib.Path(f"/proc/{process}").exists())
         run.terminate()
         self.assertEqual(run.wait(100), 7)
-        run.stdout.close()
 
     def start_check(self, *signals):
         """Starts tkrun --check with a tkcore that waits. Returns its process, and tkcore's folder
@@ -69,9 +62,9 @@ class Around(RunTest):
         up, temporary = self.folder / "up", self.folder / "tmp"
         up.unlink(missing_ok=True)
         temporary.mkdir(exist_ok=True)
-        run = subprocess.Popen(["env", *signals, self.folder / "dist/bin/tkrun", "--quiet",
-                                "--check", "--", "true"], stderr=subprocess.PIPE, text=True,
-                               env={**os.environ, "TMPDIR": str(temporary)})
+        run = self.begin("env", *signals, self.folder / "dist/bin/tkrun", "--quiet", "--check",
+                         "--", "true", stderr=subprocess.PIPE,
+                         env={**os.environ, "TMPDIR": str(temporary)})
         wait_until(lambda: up.exists() and up.read_text())
         return run, pathlib.Path("/proc", up.read_text().strip())
 

@@ -171,9 +171,7 @@ class Calls(RunTest):
             "timer_span 2.000000001"])
 
     def test_a_step_is_seen_by_waits_on_a_running_counter(self):
-        # an update at the same reading leaves that something has changed
-        script = self.file("s", "openhz,64,1000000000,1,0,1000,0\nstep,1000000000,100,0\n"
-                                "update,1000000000\n")
+        script = self.file("s", "openhz,64,1000000000,1,0,1000,0\nstep,1000000000,100,0\n")
         output = self.run_on("--script", script, "--speed", 5, "--", program("steps"))
         ends = {line.split()[0]: float(line.split()[1]) for line in output.splitlines()}
         for name, end in [("absolute_sleep", 1), ("absolute_timerfd", 1), ("span", 2),
@@ -208,8 +206,8 @@ class Calls(RunTest):
     @unittest.skipUnless(CAN_TRACE, "no process may be traced")
     def test_a_process_that_is_stopped_while_it_has_the_lock(self):
         for counter in [[], STILL]:
-            run = subprocess.Popen([TKRUN, "--quiet", *counter, "--", program("held")],
-                                   stdout=subprocess.PIPE, stderr=subprocess.PIPE, text=True)
+            run = self.begin(TKRUN, "--quiet", *counter, "--", program("held"),
+                             stderr=subprocess.PIPE)
             process = int(run.stdout.readline())
             named = select.select([run.stderr], [], [], 100)[0] and run.stderr.readline()
             os.kill(process, signal.SIGCONT)

@@ -65,10 +65,8 @@ class Rights(RunTest):
 
     def starts(self, *command):
         """A daemon goes on until it is ended."""
-        run = subprocess.Popen([TKRUN, "--quiet", "--start", "2030-01-01T00:00:00Z", "--",
-                                *command], stdout=subprocess.PIPE, stderr=subprocess.STDOUT,
-                               text=True)
-        self.addCleanup(run.stdout.close)
+        run = self.begin(TKRUN, "--quiet", "--start", "2030-01-01T00:00:00Z", "--", *command,
+                         stderr=subprocess.STDOUT)
         wait_until(lambda: run.poll() is not None or self.waits_without_root(run.pid))
         is_running = run.poll() is None
         run.terminate()

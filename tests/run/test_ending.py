@@ -26,22 +26,14 @@ SIGTIMEDWAIT = "128"  # the number of rt_sigtimedwait
 # these go on after SIGTERM and SIGINT: one waits, and one computes
 STUBBORN = ("trap '' TERM INT; (while :; do :; done) & (exec sleep 1000) & echo $!; echo up; "
             "wait; sleep 1000")
-
-
-def end_group(run):
-    """Ends a run that a test has left, with all that it has started."""
-    if run.poll() is None:
-        os.killpg(run.pid, signal.SIGKILL)
-        run.communicate()
+EXITS = "trap 'exit 5' TERM; echo up; sleep 1000 & wait"
 
 
 class Ending(RunTest):
-    def begin(self, *arguments, signals="--default-signal", tracer=()):
+    def begin_up(self, *arguments, signals="--default-signal", tracer=()):
         """Starts tkrun with a program that prints "up" at the end of its lines. Returns these."""
-        run = subprocess.Popen(["env", signals, *tracer, TKRUN, "--quiet", *map(str, arguments)],
-                               stdout=subprocess.PIPE, stderr=subprocess.PIPE, text=True,
-                               start_new_session=True)
-        self.addCleanup(end_group, run)
+        run = self.begin("env", signals, *tracer, TKRUN, "--quiet", *arguments,
+                         stderr=subprocess.PIPE)
         lines = []
         while not lines or lines[-1] != "up\n":
             lines.append(run.stdout.readline())
@@ -57,7 +49,7 @@ class Ending(RunTest):
         for number in [signal.SIGTERM, signal.SIGINT]:
             for counter in [[], STILL]:
                 with self.subTest(number=number, counter=counter):
-                    run, children = self.begin(*counter, "--", "bash", "-c", STUBBORN)
+                    run, children = self.begin_up(*counter, "--", "bash", "-c", STUBBORN)
                     start = time.monotonic()
                     run.send_signal(number)
                     self.end(run, 128 + signal.SIGKILL)
@@ -65,8 +57,8 @@ class Ending(RunTest):
                     self.assertFalse(pathlib.Path("/proc", children[0].strip()).exists())
 
     def test_a_child_that_computes(self):
-        run, _ = self.begin(*STILL, "--", "bash", "-c",
-                            "(while :; do :; done) & echo up; sleep 1; wait")
+        run, _ = self.begin_up(*STILL, "--", "bash", "-c",
+                               "(while :; do :; done) & echo up; sleep 1; wait")
         run.terminate()
         self.end(run, 128 + signal.SIGTERM)
 
@@ -76,8 +68,8 @@ class Ending(RunTest):
         for first, second in [(signal.SIGTERM, signal.SIGINT), (signal.SIGINT, signal.SIGTERM),
                               (signal.SIGTERM, signal.SIGTERM)]:
             with self.subTest(first=first, second=second):
-                run, lines = self.begin("--", "bash", "-c", f"echo $PPID; {STUBBORN}",
-                                        tracer=[program("held_grace")])
+                run, lines = self.begin_up("--", "bash", "-c", f"echo $PPID; {STUBBORN}",
+                                           tracer=[program("held_grace")])
                 os.kill(int(lines[0]), first)
                 self.assertEqual(run.stdout.readline(), "waits\n")
                 os.kill(int(lines[0]), second)
@@ -86,8 +78,8 @@ class Ending(RunTest):
     @unittest.skipUnless(CAN_TRACE, "no process may be traced")
     def test_an_interruption_neither_ends_nor_renews_the_second(self):
         # a tracer lets the second pass, and the wait fail with EINTR: the next one has no time left
-        run, lines = self.begin("--", "bash", "-c", f"echo $PPID; {STUBBORN}",
-                                tracer=[program("interrupted_grace")])
+        run, lines = self.begin_up("--", "bash", "-c", f"echo $PPID; {STUBBORN}",
+                                   tracer=[program("interrupted_grace")])
         os.kill(int(lines[0]), signal.SIGTERM)
         self.assertEqual(run.stdout.readline(), "0\n")
         self.end(run, 128 + signal.SIGKILL)
@@ -104,7 +96,7 @@ class Ending(RunTest):
 
     @unittest.skipUnless(CAN_TRACE, "no process may be traced")
     def test_a_stop_of_tkrun_does_not_end_the_second(self):
-        run, _ = self.begin("--", "bash", "-c", STUBBORN)
+        run, _ = self.begin_up("--", "bash", "-c", STUBBORN)
         start = time.monotonic()
         run.terminate()
         # on a busy machine the second may be over before it is seen
@@ -140,14 +132,13 @@ class Ending(RunTest):
 
     def test_a_signal_that_was_ignored(self):
         # if SIGINT counted, SIGTERM would be the second signal, which only ends
-        run, _ = self.begin("--", "bash", "-c", "trap 'exit 5' TERM; echo up; sleep 1000 & wait",
-                            signals="--ignore-signal=INT")
+        run, _ = self.begin_up("--", "bash", "-c", EXITS, signals="--ignore-signal=INT")
         run.send_signal(signal.SIGINT)
         run.terminate()
         self.end(run, 5)
 
     def test_a_program_ends_in_its_own_way(self):
-        run, _ = self.begin("--", "bash", "-c", "trap 'exit 5' TERM; echo up; sleep 1000 & wait")
+        run, _ = self.begin_up("--", "bash", "-c", EXITS)
         run.terminate()
         self.end(run, 5)
 
@@ -157,11 +148,9 @@ class Ending(RunTest):
         self.addCleanup(os.close, controller)
         self.addCleanup(os.close, terminal)
         code = "$| = 1; $SIG{INT} = sub { print qq(int\n) }; print qq(up\n); sleep 1000 while 1"
-        run = subprocess.Popen([TKRUN, "--quiet", "--", "/usr/bin/perl", "-e", code], text=True,
-                               stdin=terminal, stdout=subprocess.PIPE, stderr=subprocess.PIPE,
-                               start_new_session=True,
-                               preexec_fn=lambda: fcntl.ioctl(0, termios.TIOCSCTTY, 0))
-        self.addCleanup(end_group, run)
+        run = self.begin(TKRUN, "--quiet", "--", "/usr/bin/perl", "-e", code, stdin=terminal,
+                         stderr=subprocess.PIPE,
+                         preexec_fn=lambda: fcntl.ioctl(0, termios.TIOCSCTTY, 0))
         self.assertEqual(run.stdout.readline(), "up\n")
         run.send_signal(signal.SIGSTOP)
         os.waitid(os.P_PID, run.pid, os.WSTOPPED)
@@ -171,8 +160,8 @@ class Ending(RunTest):
         self.end(run, 128 + signal.SIGKILL)
 
     def test_a_hangup_is_only_passed_on(self):
-        run, _ = self.begin("--", "bash", "-c",
-                            "trap 'echo up; exec sleep 1000' HUP; echo up; sleep 1000 & wait")
+        run, _ = self.begin_up("--", "bash", "-c",
+                               "trap 'echo up; exec sleep 1000' HUP; echo up; sleep 1000 & wait")
         run.send_signal(signal.SIGHUP)
         self.assertEqual(run.stdout.readline(), "up\n")
         # if SIGHUP counted, this would be the second signal, which ends by SIGKILL
@@ -186,8 +175,8 @@ class Ending(RunTest):
         self.assertEqual((run.returncode, run.stderr), (0, ""))
 
     def test_processes_that_a_session_has_left(self):
-        run, lines = self.begin("--", "bash", "-c", "echo $$; setsid bash -c 'trap \"\" TERM; "
-                                "echo up; while :; do sleep 1000; done' & exit 3")
+        run, lines = self.begin_up("--", "bash", "-c", "echo $$; setsid bash -c 'trap \"\" TERM; "
+                                   "echo up; while :; do sleep 1000; done' & exit 3")
         wait_until(lambda: not pathlib.Path("/proc", lines[0].strip()).exists())
         run.terminate()
         self.end(run, 3)
@@ -196,8 +185,8 @@ class Ending(RunTest):
         if not CAN_TRACE:
             self.skipTest("no process may be traced")
         for counter in [[], STILL]:
-            run = subprocess.Popen([TKRUN, "--quiet", *counter, "--", program("held")],
-                                   stdout=subprocess.PIPE, stderr=subprocess.PIPE, text=True)
+            run = self.begin(TKRUN, "--quiet", *counter, "--", program("held"),
+                             stderr=subprocess.PIPE)
             process = int(run.stdout.readline())
             run.terminate()
             run.communicate(timeout=100)

@@ -37,8 +37,8 @@ class Leaks(RunTest):
 
     def test_files_of_signals(self):
         code = f"for i in {{1..{TIMES}}}; do sleep 1000 & done; echo up; wait"
-        run = subprocess.Popen([*LIMIT, TKRUN, "--quiet", "--", "bash", "-c", code],
-                               stdout=subprocess.PIPE, stderr=subprocess.PIPE, text=True)
+        run = self.begin(*LIMIT, TKRUN, "--quiet", "--", "bash", "-c", code,
+                         stderr=subprocess.PIPE)
         self.assertEqual(run.stdout.readline(), "up\n")
         run.terminate()
         self.assertEqual(run.communicate(timeout=100), ("", ""))

@@ -111,12 +111,14 @@ class Records(RunTest):
 
     @needs("/usr/bin/perl")
     def test_requests_at_the_end_of_a_chunk(self):
-        # a request has seven rows, which are in one of the chunks of 65,536 rows
-        code = "time for 1..65490; syscall(159, my $t = pack('L x4 q25', 0)) for 1..20"
+        # a request has seven rows, all in the same chunk of 65,536 rows. At the ends of seven chunks
+        # there is room for each number of rows from none to six. The last row has the TAI offset.
+        code = ("syscall(159, my $s = pack('L x4 q25', 128, (0) x 5, 37)); "
+                "my $t = pack('L x4 q25', 0); syscall(159, $t) for 1..66000")
         run = self.start(*STILL, "--start", 1000000000, "--record", self.folder / "r", "--check",
                          "--", "/usr/bin/perl", "-e", code)
         self.assertEqual(run.returncode, 0, run.stderr)
-        self.assertEqual((self.folder / "r").read_text().count("\nadjtimex,"), 20)
+        self.assertEqual((self.folder / "r").read_text().count("\nadjtimex,"), 66001)
 
     def spoil_row(self, at, value):
         """Runs a program that sets a word of the row of its second set to another value."""
@@ -210,20 +212,22 @@ with open({str(rows)!r}, "r+b") as file:
 
     @needs("/usr/bin/python3")
     def test_a_log_leaves_a_signal_of_the_programs_own(self):
-        # a limit of 0 bytes stops the log, and a file of the program
-        code = f"""import os, signal, time
+        # a limit of 0 bytes stops the log, and a file of the program, which gets a signal
+        for own in [False, True]:
+            code = f"""import os, signal, time
 signal.signal(signal.SIGXFSZ, signal.SIG_DFL)
 signal.pthread_sigmask(signal.SIG_BLOCK, [signal.SIGXFSZ])
-time.clock_settime(time.CLOCK_REALTIME, 2000000000)
-print(signal.SIGXFSZ in signal.sigpending())
 try:
-    os.write(os.open({str(self.folder / "own")!r}, os.O_CREAT | os.O_WRONLY), b"a")
+    file = os.open({str(self.folder / "own")!r}, os.O_CREAT | os.O_WRONLY)
+    os.write(file, b"a" * {int(own)})
 except OSError:
-    time.clock_settime(time.CLOCK_REALTIME, 2000000000)
+    pass
+time.clock_settime(time.CLOCK_REALTIME, 2000000000)
 print(signal.SIGXFSZ in signal.sigpending())"""
-        run = self.start("--quiet", "--log", self.folder / "log", "--", "bash", "-c",
-                         'ulimit -f 0; exec /usr/bin/python3 -c "$1"', "bash", code)
-        self.assertEqual((run.returncode, run.stdout), (0, "False\nTrue\n"), run.stderr)
+            run = self.start("--quiet", "--log", self.folder / "log", "--", "bash", "-c",
+                             'ulimit -f 0; exec /usr/bin/python3 -c "$1"', "bash", code)
+            self.assertEqual((run.returncode, run.stdout), (0, f"{own}\n"), run.stderr)
+            self.assertIn("1 line isn't in the log", run.stderr)
 
     def record_of(self, *options):
         """Records a program that reads and sleeps. Returns the number of reads in the record, and what

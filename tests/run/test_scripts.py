@@ -113,6 +113,18 @@ class Scripts(RunTest):
             self.assertIn(self.refuse(",".join(fields)), [
                 "record 1: tkrun can't continue running clocks"])
 
+    def test_refused_commands(self):
+        # --check compares the reasons: awake, asleep for two, invalid, and awake again
+        commands = ["resume,0,5,0", "suspend,0", "suspend,0", "set,0,1600000000,5", "resume,0,-1,0",
+                    "resume,0,3600,7", "resume,0,1,0"]
+        script = self.file("s", "\n".join(["openhz,64,1000000000,1,0,1000000000,0", *commands]))
+        record = self.folder / "r"
+        run = self.start(*STILL, "--script", script, "--record", record, "--check", "--",
+                         program("calls"))
+        self.assertEqual(run.returncode, 0, run.stderr)
+        self.assertRegex(run.stderr, "commands: 2 accepted, 5 refused;")
+        self.assertEqual(given(record), commands)
+
     def test_commands_at_one_reading(self):
         commands = ["step,1000000000,100,7", "tai,1000000000,37", "step,1000000000,-30,0",
                     "set,2000000000,1600000000,5", "tai,2000000000,38"]

@@ -18,9 +18,8 @@ class Seconds(RunTest):
 
     def listed(self, lines, *options):
         """Starts the calls of these lines on the clocks."""
-        run = subprocess.Popen([TKRUN, "--quiet", *map(str, options), "--", program(self.PROGRAMS[0])],
-                               stdin=subprocess.PIPE, stdout=subprocess.PIPE, stderr=subprocess.PIPE,
-                               text=True)
+        run = self.begin(TKRUN, "--quiet", *options, "--", program(self.PROGRAMS[0]),
+                         stdin=subprocess.PIPE, stderr=subprocess.PIPE)
         run.stdin.write("\n".join(lines) + "\n")
         run.stdin.flush()
         return run
@@ -79,8 +78,8 @@ class Seconds(RunTest):
         code = (f"echo sleep_until 0 {MIDNIGHT} 250000000 | {calls} & "
                 f"echo sleep 0 250000000 | {calls} >/dev/null; "
                 f"echo adjtimex modes=20 maxerror=0 status={status} | {calls} >/dev/null; wait")
-        return subprocess.Popen([TKRUN, "--quiet", *self.OPTIONS, "--speed", "0.4", "--start",
-                                 str(MIDNIGHT - 3), "--", "bash", "-c", code], stdout=subprocess.PIPE, text=True)
+        return self.begin(TKRUN, "--quiet", *self.OPTIONS, "--speed", 0.4, "--start", MIDNIGHT - 3,
+                          "--", "bash", "-c", code)
 
     def test_reads_while_a_second_begins(self):
         # without a record, a static program reads by the image
@@ -119,8 +118,7 @@ class Seconds(RunTest):
         calls, start = program(self.PROGRAMS[0]), 1000000000
         code = (f"echo sleep_until {clock} {start + FAR} 0 | {calls} & echo sleep 1 0 | {calls}; "
                 f"echo {step.format(start + 100)} | {calls} | grep -v '\\.'; wait")
-        return subprocess.Popen([TKRUN, "--quiet", *self.OPTIONS, "--start", str(start), "--", "bash",
-                                 "-c", code], stdout=subprocess.PIPE, text=True)
+        return self.begin(TKRUN, "--quiet", *self.OPTIONS, "--start", start, "--", "bash", "-c", code)
 
 
 @unittest.skipUnless(CAN_FILTER, "the kernel lets no filter ask tkrun")

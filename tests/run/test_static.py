@@ -133,19 +133,15 @@ class Static(RunTest):
     def start_held(self, holds, *arguments, where=""):
         """Starts tkrun with a program that prints "up". Then strace holds up these system calls of
         all threads of tkrun, or of those that are in a system call with this number."""
-        run = subprocess.Popen([TKRUN, "--quiet", *map(str, arguments)], stdin=subprocess.PIPE,
-                               stdout=subprocess.PIPE, text=True)
+        run = self.begin(TKRUN, "--quiet", *arguments, stdin=subprocess.PIPE)
         self.assertEqual(run.stdout.readline(), "up\n")
         threads = []
         while not threads:
             threads = [task.name for task in pathlib.Path(f"/proc/{run.pid}/task").iterdir()
                        if (task / "syscall").read_text().startswith(where)]
-        self.trace = subprocess.Popen(["strace", "-o", self.folder / "calls", "-e",
-                                       f"inject={holds}",
-                                       *(f"--attach={thread}" for thread in threads)],
-                                      stderr=subprocess.PIPE, text=True)
-        self.addCleanup(self.trace.communicate)
-        self.addCleanup(self.trace.terminate)
+        self.trace = self.begin("strace", "-o", self.folder / "calls", "-e", f"inject={holds}",
+                                *(f"--attach={thread}" for thread in threads),
+                                stderr=subprocess.PIPE)
         for _ in threads:
             self.assertIn("attached", self.trace.stderr.readline())
         return run
@@ -221,12 +217,11 @@ class Static(RunTest):
 
     def test_a_signal_ends_a_sleep(self):
         command = f"echo up; exec {program('static_waits')} sleep"
-        run = subprocess.Popen([TKRUN, "--static", "--quiet", "--speed", "0.001", "--", "bash",
-                                "-c", command], stdout=subprocess.PIPE, text=True)
+        run = self.begin(TKRUN, "--static", "--quiet", "--speed", 0.001, "--", "bash", "-c",
+                         command)
         self.assertEqual(run.stdout.readline(), "up\n")
         run.terminate()
         self.assertEqual(run.wait(100), 143)
-        run.stdout.close()
 
     def test_what_a_dynamic_program_starts(self):
         command = ("date +%s; env -i /bin/date +%s; /nowhere/program; "

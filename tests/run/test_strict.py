@@ -64,9 +64,9 @@ class Covered(RunTest):
 
     @needs("etcd")
     def test_etcd(self):
-        run = subprocess.Popen([TKRUN, "--quiet", "--start", "2001-01-01T00:00:00Z", "--", "etcd",
-                                "--data-dir", self.folder / "etcd"], stderr=subprocess.PIPE,
-                               stdout=subprocess.DEVNULL, text=True)
+        run = self.begin(TKRUN, "--quiet", "--start", "2001-01-01T00:00:00Z", "--", "etcd",
+                         "--data-dir", self.folder / "etcd", stderr=subprocess.PIPE,
+                         stdout=subprocess.DEVNULL)
         lines = [run.stderr.readline() for _ in range(3)]
         run.terminate()
         run.communicate(timeout=100)
