@@ -224,6 +224,8 @@ static void by_setting(void)
 	       sigismember(&before.sa_mask, SIGUSR1));
 	printf(" %d", signal(OWN, SIG_IGN) == on_other);
 	printf(" %d", signal(OWN, on_other) == SIG_IGN);
+	sigaction(OWN, NULL, &before);
+	printf(" %d %d", sigismember(&before.sa_mask, OWN), !!(before.sa_flags & SA_RESTART));
 	raise(OWN);
 }
 
