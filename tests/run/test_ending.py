@@ -11,7 +11,7 @@ import termios
 import time
 import unittest
 
-from runs import CAN_TRACE, STILL, TKRUN, RunTest, call, program, wait_until
+from runs import CAN_TRACE, STILL, TKRUN, RunTest, call, needs, program, wait_until
 
 # executes a program with a SIGINT that is blocked and pending
 PENDING = """import os, signal, sys
@@ -142,14 +142,17 @@ class Ending(RunTest):
         run.terminate()
         self.end(run, 5)
 
+    @needs("/usr/bin/python3")
     def test_a_signal_of_the_terminal_comes_once(self):
         # the terminal sends it to the program, which prints it before tkrun goes on
         controller, terminal = pty.openpty()
         self.addCleanup(os.close, controller)
         self.addCleanup(os.close, terminal)
-        code = "$| = 1; $SIG{INT} = sub { print qq(int\n) }; print qq(up\n); sleep 1000 while 1"
-        run = self.begin(TKRUN, "--quiet", "--", "/usr/bin/perl", "-e", code, stdin=terminal,
-                         stderr=subprocess.PIPE,
+        code = ("import signal; signals = [signal.SIGINT]; "
+                "signal.pthread_sigmask(signal.SIG_BLOCK, signals); print('up', flush=True)\n"
+                "while signal.sigwait(signals): print('int', flush=True)")
+        run = self.begin("env", "--default-signal", TKRUN, "--quiet", "--", "/usr/bin/python3",
+                         "-c", code, stdin=terminal, stderr=subprocess.PIPE,
                          preexec_fn=lambda: fcntl.ioctl(0, termios.TIOCSCTTY, 0))
         self.assertEqual(run.stdout.readline(), "up\n")
         run.send_signal(signal.SIGSTOP)
