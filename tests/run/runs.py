@@ -2,6 +2,7 @@
 import faulthandler
 import os
 import pathlib
+import random
 import re
 import shutil
 import signal
@@ -62,10 +63,15 @@ def program(name):
 
 
 def free_port():
-    """A port of UDP on 127.0.0.1 that nobody has."""
-    with socket.socket(socket.AF_INET, socket.SOCK_DGRAM) as probe:
-        probe.bind(("127.0.0.1", 0))
-        return probe.getsockname()[1]
+    """A port of UDP on 127.0.0.1 that nobody has, and that the kernel gives nobody."""
+    while True:
+        port = random.randrange(10000, 32768)  # those that the kernel chooses are above
+        with socket.socket(socket.AF_INET, socket.SOCK_DGRAM) as probe:
+            try:
+                probe.bind(("127.0.0.1", port))
+                return port
+            except OSError:
+                pass
 
 
 # prints the second of REALTIME by three functions of the C library, in Python

@@ -53,6 +53,14 @@ class Records(RunTest):
         self.assertEqual(run.stderr.count(": the program saw '1000000000.000000000'"), 5)
         self.assertIn("tkrun: check: 8 lines differ from tkcore's\n", run.stderr)
 
+    def test_a_difference_counts_though_a_later_part_cannot_be_run(self):
+        been = self.folder / "been"
+        tkcore = self.tkcore(f"[ -e {been} ] && exit 127; touch {been}; sed 's/,realtime,/&1/'")
+        run = call([tkcore.parent / "tkrun", *STILL, "--check", "--", program("calls")],
+                   input="gettime 0\n" * 200, env={**os.environ, "TKRUN_PART_BYTES": "2000"})
+        self.assertEqual(run.returncode, 3, run.stderr)
+        self.assertIn("--check: tkcore can't be run on ", run.stderr)
+
     def test_a_command_that_differs(self):
         run = self.check_by("sed 's/^set,.*/update,0/'", *STILL, "--", "date", "-s",
                             "@9999999999")

@@ -112,6 +112,8 @@ class Scripts(RunTest):
             fields[place] = str(int(fields[place]) + 1)
             self.assertIn(self.refuse(",".join(fields)), [
                 "record 1: tkrun can't continue running clocks"])
+        opening[16] = str(int(opening[16]) + 2**32)  # HZ has 32 bits
+        self.assertEqual(self.refuse(",".join(opening)), "record 1: not a number in range")
 
     def test_refused_commands(self):
         # --check compares the reasons: awake, asleep for two, invalid, and awake again

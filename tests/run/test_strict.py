@@ -177,6 +177,15 @@ class Covered(RunTest):
                 "kill -USR1 $$; echo over")
         self.assertEqual(self.run_on("--", "bash", "-c", code), "got\nover\n")
 
+    def test_reads_of_a_traced_program_are_recorded(self):
+        counts = []
+        for tracer in [[], [program("traced")]]:
+            self.run_on("--start", START, "--record", self.folder / "r", "--", *tracer,
+                        program("vdso"))
+            counts.append((self.folder / "r").read_text().count("\nget,"))
+        self.assertGreater(counts[0], 20)
+        self.assertEqual(*counts)
+
     def test_a_traced_program_with_the_library(self):
         for options in [[], ["--counter", "tsc"], ["--record", self.folder / "r"]]:
             with self.subTest(options):
