@@ -3,9 +3,10 @@
  * Lets a timer with a period of 0.25 s expire while its signal is blocked, and prints the
  * overruns: those that the handler gets, and those of timer_getoverrun. A process gets the
  * signals of the first timer, and a thread those of the second one. Another timer has the same
- * signal, and doesn't expire.
+ * signal, and doesn't expire. Then one expires for another thread, where its signal stays pending.
  */
 #define _GNU_SOURCE
+#include <pthread.h>
 #include <signal.h>
 #include <stdint.h>
 #include <stdio.h>
@@ -76,6 +77,49 @@ static void print_timer(int notify)
 	timer_delete(other);
 }
 
+static _Atomic int other_thread;
+
+static void *sleep_long(void *unused)
+{
+	other_thread = (int)syscall(SYS_gettid);
+	nap(10000);
+	return unused;
+}
+
+static timer_t start_timer(int thread, const struct itimerspec *spec)
+{
+	struct sigevent event = { .sigev_notify = SIGEV_THREAD_ID, .sigev_signo = SIGUSR1 };
+	timer_t timer = 0;
+
+	event.sigev_notify_thread_id = thread;
+	if (timer_create(CLOCK_MONOTONIC, &event, &timer) ||
+	    timer_settime(timer, 0, spec, NULL))
+		perror("overruns");
+	return timer;
+}
+
+/* SIGUSR1 is blocked in both threads. */
+static void print_other_thread(void)
+{
+	static const struct itimerspec ONCE = { { 0, 0 }, { 0, 100000000 } };
+	timer_t timer, other;
+	pthread_t thread;
+	sigset_t set;
+
+	sigemptyset(&set);
+	sigaddset(&set, SIGUSR1);
+	pthread_create(&thread, NULL, sleep_long, NULL);
+	while (!other_thread)
+		nap(1);
+	other = start_timer(other_thread, &ONCE);
+	timer = start_timer((int)syscall(SYS_gettid), &PERIOD);
+	nap(1100);
+	print_next(timer, &set);
+	timer_delete(timer);
+	timer_delete(other);
+	pthread_join(thread, NULL);
+}
+
 int main(void)
 {
 	struct sigaction action = { .sa_sigaction = count,
@@ -86,6 +130,7 @@ int main(void)
 	sigaction(SIGUSR1, &action, NULL);
 	print_timer(SIGEV_SIGNAL);
 	print_timer(SIGEV_THREAD_ID);
+	print_other_thread();
 	timerfd_settime(file, 0, &PERIOD, NULL);
 	for (int millis = 1100; millis; millis = millis == 1100 ? 100 : 0) {
 		nap(millis);

@@ -2,7 +2,8 @@
 /*
  * Asks for what is left of an alarm of 1 us after 999 ns, on a counter of sleeps of 1 GHz. It isn't
  * 0, since that would mean that none is set. Then reads a timer whose file has the number of one
- * that was closed: what is left of the first one doesn't expire. Prints what is wrong.
+ * that was closed: what is left of the first one neither expires nor gives the second one its
+ * clock. Prints what is wrong.
  */
 #define _GNU_SOURCE
 #include "faults.h"
@@ -14,33 +15,34 @@
 #include <time.h>
 #include <unistd.h>
 
-static int64_t seconds(void)
+static int64_t seconds(clockid_t clock)
 {
 	struct timespec now;
 
-	clock_gettime(CLOCK_MONOTONIC, &now);
+	clock_gettime(clock, &now);
 	return now.tv_sec;
 }
 
-static int start_timer(time_t span)
+/* Sets a timer for some seconds after the present one. */
+static int start_timer(clockid_t clock, time_t span)
 {
-	struct itimerspec spec = { .it_value = { span, 0 } };
-	int file = timerfd_create(CLOCK_MONOTONIC, 0);
+	struct itimerspec spec = { .it_value = { seconds(clock) + span, 0 } };
+	int file = timerfd_create(clock, 0);
 
-	CHECK(!timerfd_settime(file, 0, &spec, NULL));
+	CHECK(!timerfd_settime(file, TFD_TIMER_ABSTIME, &spec, NULL));
 	return file;
 }
 
 static void check_closed(void)
 {
-	int64_t started = seconds();
-	int file = start_timer(10);
+	int64_t started = seconds(CLOCK_REALTIME);
+	int file = start_timer(CLOCK_MONOTONIC, 10);
 	uint64_t count = 0;
 
 	close(file);
-	CHECK(start_timer(30) == file);
+	CHECK(start_timer(CLOCK_REALTIME, 30) == file);
 	CHECK(read(file, &count, sizeof(count)) == sizeof(count) && count == 1);
-	CHECK(seconds() == started + 30);
+	CHECK(seconds(CLOCK_REALTIME) == started + 30);
 	close(file);
 }
 

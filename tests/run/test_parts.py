@@ -4,7 +4,7 @@ import re
 
 from runs import STILL, RunTest, needs_mounts, needs_root, program
 
-MILLIS = 120
+MILLIS = 105
 WAITS = ["spans", "locks", "locks_futex"]
 
 
@@ -22,8 +22,8 @@ class Parts(RunTest):
     @needs_root("makes a namespace of processes")
     @needs_mounts("makes one of processes")
     def test_system_calls_in_parts(self):
-        # each waits for 2 s, which are 111 ms of the host
-        output = self.run_on("--speed", 18, "--", "unshare", "--pid", "--fork", program("system"))
+        # each waits for 2 s, which are 105 ms of the host
+        output = self.run_on("--speed", 19, "--", "unshare", "--pid", "--fork", program("system"))
         lines = [line.split() for line in output.splitlines()]
         self.assertEqual(len(lines), 20)
         for name, span in lines:

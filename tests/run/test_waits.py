@@ -103,7 +103,7 @@ class Spans(RunTest):
     def test_overruns(self):
         # four expiries, and then one and three, while a signal is blocked: by arithmetic
         expected = ("signals 1 si_overrun 3 getoverrun 3\ngot 1 overrun 0 0\n"
-                    "got 1 overrun 2 2\n") * 2 + "timerfd 4\ntimerfd 1\n"
+                    "got 1 overrun 2 2\n") * 2 + "got 1 overrun 3 3\ntimerfd 4\ntimerfd 1\n"
         self.assertEqual(self.run_on(*STILL, "--", program("overruns")), expected)
 
 
