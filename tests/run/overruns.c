@@ -3,7 +3,8 @@
  * Lets a timer with a period of 0.25 s expire while its signal is blocked, and prints the
  * overruns: those that the handler gets, and those of timer_getoverrun. A process gets the
  * signals of the first timer, and a thread those of the second one. Another timer has the same
- * signal, and doesn't expire. Then one expires for another thread, where its signal stays pending.
+ * signal, and doesn't expire. Then one expires for another thread between two expiries, and its
+ * signal stays pending.
  */
 #define _GNU_SOURCE
 #include <pthread.h>
@@ -101,7 +102,7 @@ static timer_t start_timer(int thread, const struct itimerspec *spec)
 /* SIGUSR1 is blocked in both threads. */
 static void print_other_thread(void)
 {
-	static const struct itimerspec ONCE = { { 0, 0 }, { 0, 100000000 } };
+	static const struct itimerspec ONCE = { { 0, 0 }, { 0, 300000000 } };
 	timer_t timer, other;
 	pthread_t thread;
 	sigset_t set;

@@ -3,7 +3,7 @@
  * Asks for what is left of an alarm of 1 us after 999 ns, on a counter of sleeps of 1 GHz. It isn't
  * 0, since that would mean that none is set. Then reads a timer whose file has the number of one
  * that was closed: what is left of the first one neither expires nor gives the second one its
- * clock. Prints what is wrong.
+ * clock. And what is left of 30 s is 30 s. Prints what is wrong.
  */
 #define _GNU_SOURCE
 #include "faults.h"
@@ -46,6 +46,17 @@ static void check_closed(void)
 	close(file);
 }
 
+/* What is left of whole seconds has no ns. */
+static void check_whole(void)
+{
+	struct itimerspec spec = { .it_value = { 30, 0 } }, rest;
+	int file = timerfd_create(CLOCK_MONOTONIC, 0);
+
+	CHECK(!timerfd_settime(file, 0, &spec, NULL) && !timerfd_gettime(file, &rest));
+	CHECK(rest.it_value.tv_sec == 30 && !rest.it_value.tv_nsec);
+	close(file);
+}
+
 static void check_alarm(void)
 {
 	struct itimerval alarm = { .it_value = { 0, 1 } }, none = { 0 }, rest;
@@ -62,6 +73,7 @@ static void check_alarm(void)
 int main(void)
 {
 	check_alarm();
+	check_whole();
 	check_closed();
 	return faults > 0;
 }

@@ -16,14 +16,6 @@ SPAN = 60  # seconds
 
 
 class Chrony(RunTest):
-    def begin(self, *command):
-        process = subprocess.Popen(list(map(str, command)), stdout=subprocess.PIPE,
-                                   stderr=subprocess.STDOUT, text=True)
-        self.addCleanup(process.stdout.close)
-        self.addCleanup(process.wait, 20)
-        self.addCleanup(process.terminate)
-        return process
-
     def configured(self, name, places):
         """Copies a configuration of the example, at these ports and in this folder."""
         text = (EXAMPLE / name).read_text()
@@ -43,9 +35,10 @@ class Chrony(RunTest):
         places = {"11123": str(free_port()), "11323": str(free_port()), "/tmp": str(self.folder)}
         server, client = (self.configured(name, places) for name in ("server.conf", "client.conf"))
         log = self.folder / "log"
-        self.begin("setpriv", "--bounding-set", "-sys_time", *DAEMON, server, "-x")
+        self.begin("setpriv", "--bounding-set", "-sys_time", *DAEMON, server, "-x",
+                   stderr=subprocess.STDOUT)
         run = self.begin(TKRUN, "--ahead", 0.3, "--error-ppm", 80, "--log", log, "--check", "--",
-                         *DAEMON, client)
+                         *DAEMON, client, stderr=subprocess.STDOUT)
         time.sleep(SPAN)
         offset, frequency = self.tracking(places["11323"])
         run.terminate()
