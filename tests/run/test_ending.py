@@ -21,6 +21,25 @@ os.kill(os.getpid(), signal.SIGINT)
 os.execv(sys.argv[1], sys.argv[1:])
 """
 
+# leaves a child, which gets a SIGHUP, and prints whether a child of that one has got it, too. The
+# sleep ends when tkrun has sent all signals: the counter moves only then
+LEAVES = """import os, signal, time
+print(os.getpid(), flush=True)
+signal.pthread_sigmask(signal.SIG_BLOCK, [signal.SIGHUP])
+if os.fork():
+    os._exit(0)
+ends = os.pipe()
+if not os.fork():
+    os.read(ends[0], 1)
+    print(signal.SIGHUP in signal.sigpending(), flush=True)
+    os._exit(0)
+print("up", flush=True)
+signal.sigwait([signal.SIGHUP])
+time.sleep(1)
+os.write(ends[1], b"a")
+os.wait()
+"""
+
 SIGTIMEDWAIT = "128"  # the number of rt_sigtimedwait
 
 # these go on after SIGTERM and SIGINT: one waits, and one computes
@@ -170,6 +189,14 @@ class Ending(RunTest):
         # if SIGHUP counted, this would be the second signal, which ends by SIGKILL
         run.terminate()
         self.end(run, 128 + signal.SIGTERM)
+
+    @needs("/usr/bin/python3")
+    def test_a_hangup_after_the_program_is_passed_on_to_its_children(self):
+        run, lines = self.begin_up(*STILL, "--", "/usr/bin/python3", "-c", LEAVES)
+        wait_until(lambda: not pathlib.Path("/proc", lines[0].strip()).exists())
+        run.send_signal(signal.SIGHUP)
+        output, errors = run.communicate(timeout=100)
+        self.assertEqual((output, errors, run.returncode), ("False\n", "", 0))
 
     def test_a_quit_is_ignored(self):
         # it would end the comparison that follows the run
