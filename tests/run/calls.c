@@ -171,6 +171,16 @@ static void sleep_span(void)
 }
 
 /* CLOCK SEC NSEC. Prints MONOTONIC after the sleep. */
+static void sleep_on(void)
+{
+	struct timespec span = { argument(2), argument(3) }, time = LEFT_TIME;
+	int result = clock_nanosleep((clockid_t)argument(1), 0, &span, NULL);
+
+	clock_gettime(CLOCK_MONOTONIC, &time);
+	show_time(result, time);
+}
+
+/* CLOCK SEC NSEC. Prints MONOTONIC after the sleep. */
 static void sleep_until(void)
 {
 	struct timespec until = { argument(2), argument(3) }, time = LEFT_TIME;
@@ -197,7 +207,7 @@ static const struct {
 	{ "clock_adjtime", adjust_clock },  { "sys_clock_adjtime", sys_adjust_clock },
 	{ "adjtime", adjust_slowly },	    { "ntp_gettime", get_quality },
 	{ "old_ntp_gettime", get_old_quality }, { "sleep", sleep_span },
-	{ "sleep_until", sleep_until },
+	{ "sleep_on", sleep_on },	    { "sleep_until", sleep_until },
 };
 
 static void make_call(void)

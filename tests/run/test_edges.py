@@ -1,9 +1,11 @@
 """Calls with arguments at the edges of what they allow (tests/run/edges.c), what --log says of
 calls, and how many the summary counts. The expected values are sums, or those of the host."""
 import re
+import shutil
 import unittest
 
-from runs import (CAN_FILTER, LINUX, OTHER, STILL, TKRUN, RunTest, call, needs_mounts, needs_root, program)
+from runs import (CAN_FILTER, LINUX, OTHER, STILL, TKRUN, RunTest, call, needs, needs_mounts,
+                  needs_root, program)
 
 # what a call returned, its errno, and by how many ns MONOTONIC has moved on: a wait adds a cycle
 EDGES = """\
@@ -69,6 +71,15 @@ NAMED = [
 # what a process of another user may not do
 FORBIDDEN = ["settime 0 1500000000 7", "sys_settimeofday 1600000000 8",
              "adjtimex modes=0x2 freq=11", "clock_adjtime 0 modes=0x2 freq=11", "adjtimex modes=0"]
+
+# asks tkrun for each file of the clocks, by CALL_FILE of run/clocks/host.h
+ASKS = """import ctypes, errno
+library = ctypes.CDLL(None, use_errno=True)
+def ask(which):
+    ctypes.set_errno(0)
+    return library.syscall(0x746b72, which) < 0 and errno.errorcode[ctypes.get_errno()] or "0"
+print(*map(ask, range(6)))
+"""
 
 
 class Edges(RunTest):
@@ -136,6 +147,20 @@ class Edges(RunTest):
             self.assertEqual([answer.split()[:2] for answer in answers[:-1]],
                              [["-1", "EPERM"]] * len(FORBIDDEN), run.stderr)
             self.assertEqual(answers[-1], "0 - 5.000000000")
+
+    @needs_root("becomes another user")
+    @needs("/usr/bin/python3")
+    @unittest.skipUnless(CAN_FILTER, "the kernel lets no filter ask tkrun")
+    def test_files_that_another_user_gets(self):
+        # enum clock_file of run/clocks/host.h: the page, it for a writer, the control, the record, the
+        # log, and none
+        files = ["--record", self.folder / "r", "--log", self.folder / "l"]
+        for user, answers in [([], "0 0 0 0 0 ENOENT"), (OTHER, "0 EACCES EACCES 0 0 ENOENT")]:
+            with self.subTest(user):
+                shown = call([*map(str, [self.share() / "bin/tkrun", "--quiet", *STILL, *files, "--",
+                                         *user, "/usr/bin/python3", "-c", ASKS])])
+                self.assertEqual((shown.stdout, shown.stderr), (f"{answers}\n", ""))
+                shutil.rmtree(self.folder / "dist")
 
     @needs_root("becomes another user")
     @unittest.skipUnless(CAN_FILTER, "the kernel lets no filter ask tkrun")

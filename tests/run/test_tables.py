@@ -117,6 +117,11 @@ AWAKE = [
     ("sleep_until 9 3602 5", "0 - 2.000000001"), ("sleep_until 8 4604 5", "0 - 4.000000001"),
 ]
 
+# only a span of BOOTTIME contains a suspension
+SUSPENDED = "openhz,64,1000000000,1,0,1000,0\nsuspend,1000000000\nresume,2000000000,3600,0\n"
+SPANS = [("sleep_on 7 100 0", "0 - 1.000000000"), ("sleep_on 7 5 0", "0 - 6.000000001"),
+         ("sleep_on 0 5 0", "0 - 11.000000002"), ("sleep_on 1 5 0", "0 - 16.000000003")]
+
 # calls that a program without the right to set a clock makes. The clocks of alarms, 8 and 9, depend on
 # the host's hardware
 REFUSED = [
@@ -197,6 +202,9 @@ class Tables(RunTest):
 
     def test_calls_after_a_suspension(self):
         self.check_table(AWAKE, *STILL, "--script", self.file("s", RESUMED))
+
+    def test_spans_over_a_suspension(self):
+        self.check_table(SPANS, *STILL, "--script", self.file("s", SUSPENDED))
 
     def test_refusals_are_those_of_the_host(self):
         for name in self.PROGRAMS:
