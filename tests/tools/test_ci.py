@@ -58,6 +58,7 @@ class Ci(Case):
             self.stub(name, "echo done")
         self.stub("check_c", f"{KEEPS}\necho done")
         self.apt("")
+        self.stand_in("dpkg", "exit 0")
 
     def write(self, name, text):
         path = self.top / name

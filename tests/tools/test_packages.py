@@ -15,10 +15,13 @@ class Packages(Case):
     def setUp(self):
         super().setUp()
         self.top = self.copy()
-        text = LIST.format(room=self.room)
-        (self.top / "tools/packages.txt").write_text(text, encoding="utf-8")
+        self.write_list(LIST.format(room=self.room))
         self.dpkg("other")
+        self.stand_in("dpkg", "exit 0")
         self.apt("exit 0")
+
+    def write_list(self, text):
+        (self.top / "tools/packages.txt").write_text(text, encoding="utf-8")
 
     def dpkg(self, *installed):
         lines = ["deinstall ok", *(f"installed {it}" for it in installed), "config-files named"]
@@ -91,7 +94,7 @@ class Packages(Case):
 
     def test_a_source_is_unpacked_by_the_systems_own_list(self):
         text = f"two source:named {self.room}/named-* a part\ntwo tool a-tool a part\n"
-        (self.top / "tools/packages.txt").write_text(text, encoding="utf-8")
+        self.write_list(text)
         self.apt(f'for word; do case $word in Dir::Etc::sourcelist=*)\n'
                  f'cat "${{word#*=}}" >>{self.room}/listed ;; esac; done\n'
                  f'case " $* " in\n*" source "*) mkdir {self.room}/named-1 ;;\n'
@@ -106,7 +109,7 @@ class Packages(Case):
 
     def test_a_source_that_cannot_be_unpacked_is_named(self):
         text = f"two source:named {self.room}/named-* a part\n"
-        (self.top / "tools/packages.txt").write_text(text, encoding="utf-8")
+        self.write_list(text)
         self.apt('case " $* " in\n*" source "*) echo "E: no source"\nexit 100 ;;\nesac')
         self.assertEqual((1, "tools/packages: installing source:named\n"
                              "tools/packages: source:named can't be installed:\nE: no source\n"
@@ -115,11 +118,11 @@ class Packages(Case):
 
     def test_a_package_that_conflicts_is_unpacked(self):
         text = f"two deb:named {self.room}/named a part\ntwo tool a-tool a part\n"
-        (self.top / "tools/packages.txt").write_text(text, encoding="utf-8")
+        self.write_list(text)
         self.apt('case " $* " in\n*" download "*) touch named_1_all.deb ;;\n'
                  f"*) ln -sf /bin/true {self.first}/a-tool ;;\nesac")
-        self.stand_in("dpkg", f'echo "$1 ${{2##*/}} $3" >{self.room}/unpacked\n'
-                              f"touch {self.room}/named")
+        self.stand_in("dpkg", f'[ "$1" = -x ] || exit 0\ntouch {self.room}/named\n'
+                              f'echo "$1 ${{2##*/}} $3" >{self.room}/unpacked')
         self.assertEqual((0, "tools/packages: installing deb:named tool\n", ""),
                          self.run_packages("--install", "two"))
         self.assertEqual([["update"], ["install", "tool"], ["download", "named"]], self.asked())
@@ -128,12 +131,12 @@ class Packages(Case):
 
     def test_a_package_that_was_removed_for_another_is_unpacked_too(self):
         text = f"two deb:named {self.room}/named a part\ntwo tool a-tool a part\n"
-        (self.top / "tools/packages.txt").write_text(text, encoding="utf-8")
+        self.write_list(text)
         (self.room / "named").touch()
         self.apt('case " $* " in\n*" download "*) touch named_1_all.deb ;;\n'
                  f'*" install "*) rm {self.room}/named\nln -sf /bin/true {self.first}/a-tool ;;\n'
                  "esac")
-        self.stand_in("dpkg", f"touch {self.room}/named")
+        self.stand_in("dpkg", f'[ "$1" != -x ] || touch {self.room}/named')
         self.assertEqual((0, "tools/packages: installing tool\n"
                              "tools/packages: installing deb:named\n", ""),
                          self.run_packages("--install", "two"))
@@ -142,7 +145,7 @@ class Packages(Case):
 
     def test_a_package_that_cannot_be_unpacked_is_named(self):
         text = f"two deb:named {self.room}/named a part\n"
-        (self.top / "tools/packages.txt").write_text(text, encoding="utf-8")
+        self.write_list(text)
         for tool, script in [("apt-get", 'case " $* " in *" update "*) ;; *) echo "E: bad"; exit 1 ;; esac'),
                              ("dpkg", "echo 'E: bad'\nexit 2")]:
             self.stand_in(tool, script)
@@ -159,10 +162,27 @@ class Packages(Case):
         self.assertIn("apt-get update failed:\nE: Permission denied\n", said)
         self.assertEqual("two: not installed: tool named", said.splitlines()[-1])
 
+    def test_what_an_interrupted_dpkg_left_is_configured_first(self):
+        configured, why = self.room / "configured", "E: dpkg was interrupted"
+        self.apt(f'[ "$1" = update ] || [ -e {configured} ] || {{ echo "{why}"\nexit 100; }}\n'
+                 f"ln -sf /bin/true {self.first}/a-tool")
+        self.stand_in("dpkg", f'[ "$*" != "--configure -a" ] || touch {configured}')
+        self.write_list("two tool a-tool a part\n")
+        self.assertEqual((0, "tools/packages: installing tool\n", ""),
+                         self.run_packages("--install", "two"))
+
+    def test_what_cannot_be_configured_is_told_by_apt_get(self):
+        self.apt('[ "$1" = update ] || { echo "E: dpkg was interrupted"\nexit 100; }')
+        self.stand_in("dpkg", "echo 'dpkg: error: dpkg frontend lock was locked'\nexit 2")
+        self.write_list("two tool a-tool a part\n")
+        self.assertEqual((1, "tools/packages: installing tool\ntools/packages: tool can't be "
+                             "installed:\nE: dpkg was interrupted\ntwo: not installed: tool\n", ""),
+                         self.run_packages("--install", "two"))
+
     def test_each_check_names_what_it_needs_by_the_list(self):
         text = "".join(f"{it} package-{it} {self.room}/none all\n"
                        for it in ("check_c", "check_run", "check_kernel"))
-        (self.top / "tools/packages.txt").write_text(text, encoding="utf-8")
+        self.write_list(text)
         self.stand_in("rt", f'echo "rattle-kit-99z logic {LOGIC}"')
         for name in "check_c", "check_run", "check_kernel":
             with self.subTest(name):

@@ -116,7 +116,12 @@ def unpack(name):
 
 
 def install(names):
-    """Installs packages, each alone if they can't be installed together. Yields what failed."""
+    """Installs packages, each alone if they can't be installed together. Yields what failed.
+
+    apt-get installs nothing after a dpkg that was interrupted, so what that one left is configured
+    first. If it can't be, apt-get fails, and says why.
+    """
+    run("dpkg", "--configure", "-a")
     status, said = apt_get("update", "-q")
     if status:
         yield f"apt-get update failed:\n{said}"
