@@ -26,7 +26,7 @@ def check_all(run):
     proofs, libraries, built = run.copy("proofs"), run.work / "libraries", run.work / "c"
     prove(run, proofs, libraries, built)
     if not run.has_failed():
-        run.start("check_program", proofs / "tools/check_program")
+        run.start("check_program", proofs / "tools/check_program", "--libraries", libraries)
     for name in "tests/tools", "check_using", "check_c":
         run.end(name)
     if built.is_dir() or not run.has_failed("check_c"):

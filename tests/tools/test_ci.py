@@ -57,6 +57,7 @@ class Ci(Case):
         for name in CHECKS:
             self.stub(name, "echo done")
         self.stub("check_c", f"{KEEPS}\necho done")
+        self.stub("check_program", '[ "$1" = --libraries ] && [ "$#" = 2 ]')
         self.apt("")
         self.stand_in("dpkg", "exit 0")
 

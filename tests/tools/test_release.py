@@ -1,9 +1,11 @@
 """What tools/release writes, compares and says."""
 import contextlib
+import gzip
 import importlib.util
 import io
 import pathlib
 import re
+import subprocess
 import sys
 import unittest
 from importlib.machinery import SourceFileLoader
@@ -111,9 +113,63 @@ class Release(Case):
             self.assertIn(manifest.line_of(path, name), lines)
             self.assertIn(name, manifest.files(parts))
 
+    def stand_in_for_the_program(self, source):
+        """Stands in for what proves and compiles the program, and writes its text in release/."""
+        made, verdict = self.room / "tkcore.o", (0, "logic=proved functions=1\n")
+        subprocess.run(["gcc", "-O2", "-fPIC", "-x", "c", "-c", "-", "-o", made], input=source,
+                       text=True, check=True)
+        self.enterContext(mock.patch.object(release.rattle, "build_all", return_value=True))
+        self.enterContext(mock.patch.object(release.rattle, "kit", return_value=self.room))
+        built = self.enterContext(mock.patch.object(release.rattle.Crate, "run", autospec=True))
+        built.side_effect = lambda crate, command, libraries, *words: (
+            pathlib.Path(words[-1].removeprefix("-o=")).write_bytes(made.read_bytes()) and verdict)
+        text = making.release_text(made).decode()
+        self.write_program(gzip.compress(text.encode()))
+        return built, text
+
+    def write_program(self, packed):
+        path = self.folder / making.PROGRAM
+        path.parent.mkdir(exist_ok=True)
+        path.write_bytes(packed)
+        return path
+
+    def test_the_program_is_compared_with_its_text(self):
+        built, text = self.stand_in_for_the_program("int main(void) { return 71; }")
+        words = "--keep", str(self.room / "kept"), "--compare-program"
+        self.assertEqual((0, "", ""), self.run_release(*words))
+        self.assertEqual(("tkcore", "build"), (built.call_args[0][0].name, built.call_args[0][1]))
+        self.assertIn("--cpu=x86-64", built.call_args[0])
+        self.assertEqual(1, text.count("$0x47"))
+        path = self.write_program(gzip.compress(text.replace("$0x47", "$0x48").encode()))
+        status, said, errors = self.run_release(*words)
+        why = (f"tools/release: {path} isn't the proved program's text: tools/release program makes "
+               "it anew\n")
+        self.assertEqual((1, "", why), (status, said, errors[:len(why)]))
+        self.assertRegex(errors, r"\nsection \.text\S*: other bytes at 0x[0-9a-f]+\n\Z")
+
+    def test_many_differences_of_a_program_are_cut(self):
+        _, text = self.stand_in_for_the_program("".join(f"int f{it}(void) {{ return 71; }}\n"
+                                                        for it in range(50)))
+        self.write_program(gzip.compress(re.sub(r"\bf(\d)", r"g\1", text).encode()))
+        status, _, errors = self.run_release("--compare-program")
+        self.assertEqual((1, 1 + release.SHOWN), (status, len(errors.splitlines())))
+
+    def test_a_program_is_not_compared_with_a_damaged_text_or_without_a_proof(self):
+        built, text = self.stand_in_for_the_program("int main(void) { return 0; }")
+        built.side_effect = lambda *_: (1, "fn main: not proved")
+        why = "tools/release: tkcore isn't built:\nfn main: not proved\n"
+        self.assertEqual((1, "", why), self.run_release("--compare-program"))
+        path = self.write_program(gzip.compress(text.encode())[:-9])
+        status, said, errors = self.run_release("--compare-program")
+        self.assertEqual((1, ""), (status, said))
+        self.assertIn("tools/release: gzip failed:\n", errors)
+        self.assertIn(str(path), errors)
+
     def test_other_arguments_are_refused(self):
         for words in ([], ["all"], ["--verify", "library"], ["--compare", "dist", "riscv64"],
-                      ["--compare", "dist", "--verify"]):
+                      ["--compare", "dist", "--verify"], ["--compare-program", "program"],
+                      ["--compare-program", "--verify"],
+                      ["--compare-program", "--compare", "dist"]):
             with self.subTest(words):
                 status, said, errors = self.run_release(*words)
                 self.assertEqual((2, ""), (status, said))

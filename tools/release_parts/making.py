@@ -45,10 +45,14 @@ def verdict_of(crate, status, said):
     return rattle.verdict_in(said)
 
 
-def begun(crate, libraries, tools=TOOLS, maker=("gas", "as")):
-    """Proves the crates below one. Returns the first lines of its part."""
+def prove_below(crate, libraries):
     if not rattle.build_all(crate.below, libraries):
         raise Failed(f"not all crates below {crate.name} are proved")
+
+
+def begun(crate, libraries, tools=TOOLS, maker=("gas", "as")):
+    """Proves the crates below one. Returns the first lines of its part."""
+    prove_below(crate, libraries)
     if unknown := [it.name for it in crate.below if not it.verdict(libraries).exists()]:
         raise Failed(f"{libraries} has no verdicts of {' '.join(unknown)}")
     kit = [manifest.line_of(rattle.kit() / name, f"KIT/{name}") for name in COMPILERS]
@@ -77,23 +81,49 @@ def library(libraries, out):
     return lines + texts
 
 
-def program(libraries, out):
-    """Writes the program's text, compressed, and returns the lines of its part.
+def compiled_program(libraries, made):
+    """Proves and compiles the program into an object file. Returns the line of the verdict.
 
     It is compiled for the first x86-64, so that it needs no test of the processor.
     """
     crate = rattle.crates()["tkcore"]
+    built = crate.run("build", libraries, f"--toolchain={rattle.kit() / 'toolchain'}",
+                      "--cpu=x86-64", f"-o={made}")
+    return verdict_of(crate, *built)
+
+
+def release_text(*words):
+    return run("python3", "-B", rattle.ROOT / "tools" / "release_text", *words)
+
+
+def program(libraries, out):
+    """Writes the program's text, compressed, and returns the lines of its part."""
+    crate = rattle.crates()["tkcore"]
     lines = begun(crate, libraries)
     with tempfile.TemporaryDirectory() as room:
         made = pathlib.Path(room, "tkcore.o")
-        built = crate.run("build", libraries, f"--toolchain={rattle.kit() / 'toolchain'}",
-                          "--cpu=x86-64", f"-o={made}")
-        lines.append(f"{crate.name}: {verdict_of(crate, *built)}")
-        text = run("python3", "-B", rattle.ROOT / "tools" / "release_text", made)
+        lines.append(f"{crate.name}: {compiled_program(libraries, made)}")
+        text = release_text(made)
     packed = out / PROGRAM
     packed.parent.mkdir(parents=True, exist_ok=True)
     packed.write_bytes(gzip.compress(text, 9, mtime=0))
     return [*lines, manifest.line_of(packed, PROGRAM)]
+
+
+def differences_of_program(libraries, packed):
+    """Compiles the program, and compares it with what gas makes of its compressed text. Returns how
+    they differ, or "".
+    """
+    prove_below(rattle.crates()["tkcore"], libraries)
+    with tempfile.TemporaryDirectory() as room:
+        made, text = pathlib.Path(room, "tkcore.o"), pathlib.Path(room, "program.s")
+        text.write_bytes(run("gzip", "-dc", packed))
+        compiled_program(libraries, made)
+        try:
+            release_text("--compare", made, text)
+        except Failed as failed:
+            return str(failed)
+    return ""
 
 
 def module(libraries, out):
