@@ -7,6 +7,7 @@
  * a change has two points: the clocks by the snapshot before it and by the one after it.
  */
 import { BYTES, CLOCKS } from './library.js';
+import { Reads } from './reads.js';
 
 export const DRAWN = ['monotonic', 'boottime', 'realtime', 'tai'];
 
@@ -24,7 +25,8 @@ export class Curves {
         this.row = 1;
         this.end = 0n; // the greatest place that was reached
         this.changes = [];
-        this.reads = [];
+        this.reads = []; // that are drawn
+        this.allReads = new Reads();
         this.marks = [];
         this.stride = 1; // of the quiet changes that are kept
         this.quiet = 0;
@@ -110,9 +112,11 @@ export class Curves {
         this.mark(word, this.placeOf(snapshot, reading) ?? this.end, true);
     }
 
-    /** Keeps a read: its value in ns, or null if it was refused. */
-    read(clock, snapshot, reading, nanos, isDifferent) {
+    /** Keeps a read: its value in ns, or null if it was refused, and the value that it states. */
+    read(clock, snapshot, reading, nanos, stated) {
         const place = this.placeOf(snapshot, reading), base = clock.replace('_coarse', '');
+        const isDifferent = stated !== undefined && stated !== nanos;
+        this.allReads.add(clock, this.row, place, stated ?? nanos);
         this.reach(place);
         if (nanos === null)
             this.mark('get', place ?? this.end, true);

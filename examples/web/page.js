@@ -95,7 +95,7 @@ function count(report, start) {
     return report.filter(it => it.startsWith(start) || it.includes(`  ${start}`)).length;
 }
 
-function show({ report = [], lines = [], drawn = null, fault = null }) {
+function show({ report = [], lines = [], drawn = null, reads = [], fault = null }) {
     shown = { rows: new Map(), starts: lines, drawn, picture: null };
     report.forEach((text, i) => shown.rows.set(lines[i], { text, record: i + 1 }));
     if (fault) {
@@ -107,6 +107,7 @@ function show({ report = [], lines = [], drawn = null, fault = null }) {
         say(differing ? `${differing} reads differ` : 'done', `${report.length} records, ${
             count(report, 'no,')} refused`, differing > 0);
     }
+    $('reads').textContent = reads.join('\n');
     document.documentElement.dataset.state = fault ? 'fault' : 'done';
     $('rows').style.height = `${$('script').value.split('\n').length * ROW}px`;
     showRows();

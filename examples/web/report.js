@@ -136,7 +136,7 @@ export class Script {
         const time = this.library.get(this.clocks.snapshot, clock, reading);
         const value = time.code ? null : time.sec * NANOS + BigInt(time.nsec);
         const isDifferent = expected !== undefined && expected !== value;
-        this.watcher?.read(clock, this.clocks.snapshot, reading, value, isDifferent);
+        this.watcher?.read(clock, this.clocks.snapshot, reading, value, expected);
         const lines = [time.code ? `no,${REFUSALS[time.code]}` : this.valueLine(clock, time)];
         return isDifferent ? [...lines, `differs,${row},${expected}`] : lines;
     }

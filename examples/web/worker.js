@@ -29,7 +29,7 @@ function answerScript(module, bytes) {
         const script = new Script(library, bytes, drawn), report = script.run();
         curves = drawn;
         return { report: report.map(lines => lines.join('  ')), lines: linesOf(bytes, script.ends),
-            drawn: drawn.finish(script.clocks) };
+            drawn: drawn.finish(script.clocks), reads: drawn.allReads.lines() };
     } catch (fault) {
         if (!(fault instanceof Fault))
             throw fault;

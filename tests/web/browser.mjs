@@ -150,6 +150,18 @@ async function checkCursor(browser) {
         require(text.replace(/ +/g, ' ').includes(words), `the cursor: ${text}`);
 }
 
+/** The reads of a script, as a record of tkrun has them: a step back, and a pause. */
+async function checkReads(browser) {
+    const said = `document.getElementById('reads').textContent`;
+    await runScript(browser, 'open,32,16777216,24,0,1700000000,0\nget,5,realtime\nget,7,tai\n'
+        + 'step,1000000000,-2,0\nget,1500000007,realtime_coarse\nget,1500000007,realtime\n');
+    require(await browser.value(said) === 'reads: 2 of realtime, 1 of tai, 1 of realtime_coarse\n'
+        + 'longest time without a read: 1.500000000 s, before record 5\n'
+        + 'realtime went back once, by 0.499999998 s at record 6', await browser.value(said));
+    await runScript(browser, 'open,8,256,0,0,0,0\nupdate,1\n');
+    require(await browser.value(said) === '', await browser.value(said));
+}
+
 /** A script that takes minutes is ended, and the page runs the next one. */
 async function checkLimit(browser) {
     await runScript(browser, 'open,63,1000,4,4611686018427387903,1704067199,0,1\n'
@@ -169,6 +181,7 @@ async function check(browser, page) {
     for (const { name } of names)
         await checkExample(browser, name);
     await checkCursor(browser);
+    await checkReads(browser);
     await checkLimit(browser);
     require(!browser.errors.length, browser.errors.join('\n'));
     console.log(`${names.length} examples in ${path.basename(page)} have their reports and panels`);

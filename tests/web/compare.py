@@ -5,8 +5,8 @@ random scripts, by the program or by the definitions in Python.
     tests/web/compare.py MODULE [--program TKCORE] [--scripts N] [--seed SEED] [--node FLAG] [--long]
 
 With --long, the journal of steered clocks is filled too, which takes a minute.
-It stops at the first report, fault or status that differs, and at the first cursor of the page that
-shows other times than these reads in a script.
+It stops at the first report, fault or status that differs, at the first cursor of the page that
+shows other times than these reads in a script, and where the page says something else of the reads.
 """
 import argparse
 import base64
@@ -31,7 +31,20 @@ MARKED = (b"openwords,32,3495253333,26,5,2597764268,3497000960,9033614093229567,
           b"1700000031,0,0,1152921504607786901,16879380609053491200,1700000031,2632316711\n"
           b"get,2761501322,monotonic\nadjtimex,2773395570,0,0,0,0,0,0,0,0,0,0\n")
 STEERED = b"open,64,8388608,23,0,1483228797,0,250\n"
+# REALTIME goes back twice, and a read is recorded after a later one
+READS = OPEN + b"""get,1000000,realtime
+get,2000000,monotonic
+step,3000000,-2,0
+get,3000000,realtime
+get,500000000,realtime
+get,400000000,realtime
+set,500000000,5,0
+get,600000000,realtime
+get,700000000,monotonic,699999999
+get,3000000000,tai
+"""
 EDGES = [
+    *[READS] * 4,  # (each fourth script is drawn)
     MARKED,
     # the greatest front, and one more
     *(MARKED.replace(b",5,2597764268", b",%d,2597764268" % front) for front in (2**62, 2**62 + 1)),
@@ -45,7 +58,7 @@ EDGES = [
 
 
 def answers(given, scripts):
-    """Returns the status, the output, the error and the cursors that the page has for each script."""
+    """Returns the status, the output, the error and what is drawn of each script, or None."""
     words = ["node", *given.node, str(TOP / "tests/web/reports.mjs"), given.module]
     lines = b"".join(base64.b64encode(script) + b"\n" for script in scripts)
     ran = subprocess.run(words, input=lines, capture_output=True, check=False)
@@ -147,6 +160,69 @@ def wrong_cursor(given, cursor):
     return None
 
 
+def value_in_ns(line):
+    return value_of(line) if line[:3] == "at," else None
+
+
+def reads_of(given, script):
+    """Yields each read of a script: its clock, record, value and place, in ns or None."""
+    records, asked = script.decode().split("\n"), []
+    for record in records:
+        word, *fields = record.split(",")
+        if word == "get":
+            asked += [f"get,{fields[0]},{clock}" for clock in ("monotonic_raw", "boottime", "monotonic")]
+        asked.append(record)
+    lines = iter([it for it in wanted_of(given, "\n".join(asked).encode())[1].splitlines()
+                  if not it.startswith("differs,")])
+    for number, record in enumerate(filter(None, records), 1):
+        word, *fields = record.split(",")
+        if word != "get":
+            next(lines)
+            continue
+        raw, boot, mono, value = (value_in_ns(next(lines)) for _ in range(4))
+        place = None if None in (raw, boot, mono) else raw + boot - mono
+        yield fields[1], number, int(fields[2]) if len(fields) > 2 else value, place
+
+
+def falls_of(reads):
+    """Yields where a clock went back, and by what: below its greatest value since the last fall."""
+    since = 0
+    for i, (number, value, place) in enumerate(reads):
+        _, most, there = max(reads[since:i], key=lambda it: it[1], default=(0, value, place))
+        if value < most and place >= there:
+            yield number, most - value
+            since = i
+
+
+def said_of(reads):
+    """Returns the lines that the page must have for reads."""
+    if not reads:
+        return []
+    clocks = list(dict.fromkeys(clock for clock, *_ in reads))
+    counts = [f"{sum(it[0] == clock for it in reads)} of {clock}" for clock in clocks]
+    placed = [it for it in reads if it[3] is not None]
+    pauses = [(placed[i][3] - max(it[3] for it in placed[:i]), placed[i][1]) for i in range(1, len(placed))]
+    lines, (span, number) = [f"reads: {', '.join(counts)}"], max(pauses, key=lambda it: it[0], default=(0, 0))
+    if span > 0:
+        lines.append(f"longest time without a read: {span // 10**9}.{span % 10**9:09} s, before record {number}")
+    found = {clock: list(falls_of([it[1:] for it in placed if it[0] == clock and it[2] is not None]))
+             for clock in clocks}
+    for clock, falls in sorted(found.items(), key=lambda it: it[1][:1]):
+        if falls:
+            number, span = max(falls, key=lambda it: it[1])
+            many = "once," if len(falls) == 1 else f"{len(falls)} times, at most"
+            lines.append(f"{clock} went back {many} by {span // 10**9}.{span % 10**9:09} s at record {number}")
+    return lines
+
+
+def wrong_reads(given, script, said):
+    """Returns what is wrong with what the page says of a script's reads, or None."""
+    wanted = said_of(list(reads_of(given, script)))
+    if said == wanted:
+        return None
+    return "\n".join([script.decode(), "--- page:", *said, "--- wanted:", *wanted])
+
+
 def full():
     """Yields scripts that fill a journal, with their reports: of plain clocks and of steered ones."""
     most = 1_048_576
@@ -183,13 +259,18 @@ def main():
     scripts += [compare.script(rng) for _ in range(given.scripts)]
     pairs += [(script, wanted_of(given, script)) for script in scripts]
     found = answers(given, [script for script, _ in pairs])
-    cursors = [cursor for *_, some in found for cursor in some]
-    if wrong := first_difference(pairs, found) or next(filter(None, (
-            wrong_cursor(given, cursor) for cursor in cursors)), None):
+    drawn = [(script, some) for (script, _), (*_, some) in zip(pairs, found) if some]
+    cursors = [cursor for _, some in drawn for cursor in some["cursors"]]
+    plain = [(script, some["reads"]) for script, some in drawn if not set(script) & set(b'"\r\xef')
+             and len(script) < 100_000]
+    if wrong := first_difference(pairs, found) or next(filter(None, [
+            *(wrong_cursor(given, cursor) for cursor in cursors),
+            *(wrong_reads(given, script, said) for script, said in plain)]), None):
         sys.exit(wrong)
     print(f"{count} examples, {stated} faults, {len(journals)} full journal(s) and {len(scripts)} scripts of "
           f"seed {given.seed}: each report, and "
-          f"what {len(cursors)} cursors show, is {'the program' if given.program else 'the model'}'s")
+          f"what {len(cursors)} cursors show, is {'the program' if given.program else 'the model'}'s, "
+          f"as what the page says of the reads of {len(plain)} scripts")
 
 
 if __name__ == "__main__":

@@ -5,8 +5,9 @@
  *     node tests/web/reports.mjs MODULE <SCRIPTS
  *
  * A line of SCRIPTS is a script in base64. A line of the output is a list in JSON for it: the exit
- * status that tkcore would have, its output, its line of standard error, and what the cursor shows
- * at some places. For each of these there is a script whose last lines are these reads.
+ * status that tkcore would have, its output, its line of standard error, and for some scripts what
+ * the page says of their reads, and what the cursor shows at some places. For each of these places
+ * there is a script whose last lines are these reads.
  */
 import fs from 'node:fs';
 import readline from 'node:readline';
@@ -56,11 +57,12 @@ function reportOf(bytes, isDrawn) {
         const first = library.lastOf(script.clocks.snapshot), lines = script.run().flat();
         const isDifferent = lines.some(line => line.startsWith('differs,'));
         return [isDifferent ? 3 : 0, lines.map(line => `${line}\n`).join(''), '',
-            isDrawn ? cursorsOf(curves, script, bytes, first) : []];
+            isDrawn ? { reads: curves.allReads.lines(),
+                cursors: cursorsOf(curves, script, bytes, first) } : null];
     } catch (fault) {
         if (!(fault instanceof Fault))
             throw fault;
-        return [1, '', `tkcore: script: ${fault.message}\n`, []];
+        return [1, '', `tkcore: script: ${fault.message}\n`, null];
     }
 }
 
