@@ -9,7 +9,7 @@ import ctypes
 import os
 from ctypes import POINTER, c_int64, c_size_t, c_uint32, c_uint64, c_void_p
 from pathlib import Path
-from typing import Any, Optional, Tuple, Type
+from typing import Any, Dict, Optional, Tuple, Type
 
 from .errors import BY_CODE, Error, OtherVersion
 
@@ -71,8 +71,8 @@ SavedWords = c_uint64 * SAVED_WORDS
 NtpSavedWords = c_uint64 * NTP_SAVED_WORDS
 ReadCounter = ctypes.CFUNCTYPE(c_uint64, c_void_p)
 
-_COUNTER, _CLOCK, _SNAPSHOT = map(POINTER, (CounterValue, ClockValue, SnapshotValue))
-_NTP = POINTER(NtpValue)
+_COUNTER, _CLOCK = POINTER(CounterValue), POINTER(ClockValue)
+_SNAPSHOT, _NTP = POINTER(SnapshotValue), POINTER(NtpValue)
 _NUMBER, _WORDS = POINTER(c_uint32), POINTER(c_uint64)
 _MAKE = [_COUNTER, c_uint32, c_uint64, c_uint32]
 _LOOK = [c_void_p, c_uint32, ReadCounter, _SNAPSHOT, _WORDS]
@@ -166,7 +166,7 @@ def _check(calls: Any, path: str) -> None:
                            (wanted, wanted))
 
 
-def _declare(library: Any, calls: dict) -> None:
+def _declare(library: Any, calls: Dict[str, Any]) -> None:
     for name, (result, arguments) in calls.items():
         call = getattr(library, name)
         call.restype, call.argtypes = result, arguments
@@ -196,9 +196,10 @@ CALLS = load()
 def integer(value: Any, what: str) -> int:
     """Returns the number that an integer of any type has. Raises TypeError for anything else."""
     try:
-        return value.__index__()
+        number: int = value.__index__()
     except AttributeError:
         raise TypeError(f"{what} is {type(value).__name__}, not an integer") from None
+    return number
 
 
 def fit(value: Any, within: Tuple[int, int], error: Type[Error], what: str,

@@ -112,12 +112,14 @@ class Clock(Commanded):
     @property
     def frequency(self) -> int:
         """The frequency as it was set, in 2^-16 ppm."""
-        return CALLS.tkc_clock_frequency(byref(self._value))
+        frequency: int = CALLS.tkc_clock_frequency(byref(self._value))
+        return frequency
 
     @property
     def tick(self) -> int:
         """The tick, in us."""
-        return CALLS.tkc_clock_tick(byref(self._value))
+        tick: int = CALLS.tkc_clock_tick(byref(self._value))
+        return tick
 
     def snapshot(self) -> Snapshot:
         """Returns a snapshot of the clocks, for reads."""
@@ -149,7 +151,8 @@ class Clock(Commanded):
         self.counter = counter
 
     def _call_apply(self, reading: int, command: int, number: int, nsec: int) -> int:
-        return CALLS.tkc_clock_apply(byref(self._value), reading, command, number, nsec)
+        code: int = CALLS.tkc_clock_apply(byref(self._value), reading, command, number, nsec)
+        return code
 
     def __repr__(self) -> str:
         words, frequency, tick = self.words()

@@ -3,7 +3,7 @@
 from __future__ import annotations
 
 from ctypes import byref, c_uint32
-from typing import Any
+from typing import Any, Tuple
 
 from ._library import CALLS, U32, U64, CounterValue, SnapshotValue, fit
 from .errors import BY_CODE, BadBits, BadMult, BadRate, BadShift, Invalid
@@ -93,7 +93,7 @@ class Counter:
     @property
     def max_reading(self) -> int:
         """The greatest reading, 2^bits - 1 cycles."""
-        return 2**self.bits - 1
+        return (1 << self.bits) - 1
 
     def gap(self, start: int, end: int) -> int:
         """Returns the cycles from one reading to a later one, modulo 2^bits. Bits of the readings
@@ -101,8 +101,9 @@ class Counter:
 
         Raises Invalid if a reading isn't 0 to 2^64 - 1.
         """
-        return CALLS.tkc_counter_gap(byref(self._value), fit(start, U64, Invalid, "start"),
-                                     fit(end, U64, Invalid, "end"))
+        gap: int = CALLS.tkc_counter_gap(byref(self._value), fit(start, U64, Invalid, "start"),
+                                         fit(end, U64, Invalid, "end"))
+        return gap
 
     def nanos(self, cycles: int) -> int:
         """Returns the nanoseconds of a number of cycles at the counter's own rate, rounded down:
@@ -110,7 +111,9 @@ class Counter:
 
         Raises Invalid if `cycles` isn't 0 to 2^64 - 1.
         """
-        return CALLS.tkc_counter_nanos(byref(self._value), fit(cycles, U64, Invalid, "cycles"))
+        nanos: int = CALLS.tkc_counter_nanos(byref(self._value),
+                                             fit(cycles, U64, Invalid, "cycles"))
+        return nanos
 
     def __eq__(self, other: object) -> bool:
         if not isinstance(other, Counter):
@@ -126,5 +129,5 @@ class Counter:
     def __reduce__(self) -> Any:
         return Counter, self._numbers()
 
-    def _numbers(self) -> tuple:
+    def _numbers(self) -> Tuple[int, int, int]:
         return self.bits, self.mult, self.shift

@@ -7,7 +7,7 @@ from array import array
 from bisect import bisect_left, bisect_right
 from copy import copy
 from operator import le
-from typing import Any, Iterable, List, Optional
+from typing import Any, Callable, Dict, Iterable, List, Optional, Tuple
 
 from ._buffers import numbers
 from ._library import NANOS
@@ -17,7 +17,7 @@ from .errors import BadBuffer, Error, Invalid
 from .snapshot import Snapshot
 
 # The method of each record of a command, and how its fields after the reading make the argument.
-_COMMANDS = {
+_COMMANDS: Dict[str, Tuple[Callable[..., Any], Callable[..., Any]]] = {
     "update": (Clock.update, lambda: ()),
     "suspend": (Clock.suspend, lambda: ()),
     "freq": (Clock.set_frequency, lambda value: (value,)),
@@ -70,7 +70,9 @@ class Journal:
     @classmethod
     def _opened(cls, word: str, bits: int, rate: int, last: int, reading: int, sec: int,
                 nsec: int) -> Journal:
-        make = {"open": Counter, "openhz": Counter.from_hz}[word]
+        makers: Dict[str, Callable[[int, int, int], Counter]] = {
+            "open": Counter, "openhz": Counter.from_hz}
+        make = makers[word]
         return cls(Clock(make(bits, rate, last), reading, sec * NANOS + nsec), reading)
 
     def _apply(self, word: str, reading: int, *fields: int) -> None:

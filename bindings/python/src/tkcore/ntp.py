@@ -252,7 +252,8 @@ class SteeredClock(Commanded):
 
         def is_behind(gap: int) -> bool:
             value = NtpValue.from_buffer_copy(self._value)
-            return CALLS.tkc_ntp_advance(byref(value), (last + gap) & mask) == Behind.code
+            code: int = CALLS.tkc_ntp_advance(byref(value), (last + gap) & mask)
+            return code == Behind.code
 
         behind, ahead = -1, 0
         while ahead < mask // 2 and is_behind(ahead):
@@ -263,7 +264,8 @@ class SteeredClock(Commanded):
         return (last + ahead) & mask
 
     def _call_apply(self, reading: int, command: int, number: int, nsec: int) -> int:
-        return CALLS.tkc_ntp_apply(byref(self._value), reading, command, number, nsec)
+        code: int = CALLS.tkc_ntp_apply(byref(self._value), reading, command, number, nsec)
+        return code
 
     def __copy__(self) -> SteeredClock:
         return SteeredClock._of_value(NtpValue.from_buffer_copy(self._value), self.counter)

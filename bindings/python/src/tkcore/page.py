@@ -21,7 +21,7 @@ from .errors import BY_CODE, BadBuffer, BadLayout, Busy, Error
 from .snapshot import Snapshot
 
 _TRIES = 1_000  # a call in C makes at most this many, so that signals are handled
-_NO_READER = ReadCounter()
+_NO_READER = ReadCounter(0)
 
 _Self = TypeVar("_Self", bound="_Shared")
 
@@ -30,8 +30,11 @@ class _Shared:
     """The part that a page and a latch have in common."""
 
     SIZE = 0
+    is_writable: bool
     _layout = 0
     _calls: Tuple[Any, Any]
+    _memory: Memory
+    _at: int
 
     def __init__(self) -> None:
         name = type(self).__name__

@@ -12,12 +12,13 @@ from ._buffers import check_apart, numbers
 from ._library import (CALLS, I64, NANOS, U32, U64, WORDS, SnapshotValue, TimeValue, Words, fit,
                        integer, raise_code)
 from .counter import Counter
-from .errors import BY_CODE, BadClock, BadRoom, BadWords, Invalid
+from .errors import BY_CODE, BadClock, BadRoom, BadWords, Invalid, Range
 
 if TYPE_CHECKING:
     import numpy
 
-    Stamps = Union["array[int]", memoryview, numpy.ndarray, Any]
+    Array = numpy.ndarray[Any, Any]
+    Stamps = Union["array[int]", memoryview, Array, Any]
 
 
 class ClockId(enum.IntEnum):
@@ -41,6 +42,7 @@ class Snapshot:
 
     __slots__ = ("_value", "counter")
 
+    _value: SnapshotValue
     counter: Counter
 
     def __init__(self) -> None:
@@ -73,12 +75,14 @@ class Snapshot:
     @property
     def front(self) -> int:
         """The number of commands that the clocks had accepted."""
-        return CALLS.tkc_snapshot_front(byref(self._value))
+        front: int = CALLS.tkc_snapshot_front(byref(self._value))
+        return front
 
     @property
     def tai_offset(self) -> int:
         """TAI minus REALTIME, in s."""
-        return CALLS.tkc_snapshot_tai(byref(self._value))
+        offset: int = CALLS.tkc_snapshot_tai(byref(self._value))
+        return offset
 
     @property
     def is_asleep(self) -> bool:
@@ -100,7 +104,8 @@ class Snapshot:
                                       fit(clock, U32, BadClock, "clock"), reading)
         if code:
             raise self._refused(code, clock, reading, "reading")
-        return time.sec * NANOS + time.nsec
+        nanos: int = time.sec * NANOS + time.nsec
+        return nanos
 
     def get_datetime64(self, reading: int, clock: int) -> numpy.datetime64:
         """Returns a clock's time at a reading as numpy's datetime64[ns]. It raises what `get` does.
@@ -157,7 +162,7 @@ class Snapshot:
         return out
 
     def convert_datetime64(self, stamps: Stamps, clock: int,
-                           out: Optional[numpy.ndarray] = None) -> numpy.ndarray:
+                           out: Optional[Array] = None) -> Array:
         """Converts each stamp into a clock's time, as `convert` does, into numpy's datetime64[ns].
 
         `out` is an array of datetime64[ns] or of uint64. The result shares its memory.
@@ -166,7 +171,8 @@ class Snapshot:
         if out is None:
             out = numpy.empty(numpy.shape(stamps), numpy.uint64)
         out = out.view(numpy.uint64)
-        return self.convert(stamps, clock, out).view("datetime64[ns]")
+        times: Array = self.convert(stamps, clock, out).view("datetime64[ns]")
+        return times
 
     @staticmethod
     def _room_for(stamps: Any, count: int) -> Any:
@@ -184,7 +190,7 @@ class Snapshot:
             error = BY_CODE[code](what, reading, (0, self.counter.max_reading))
         else:
             error = BY_CODE[code](f"{ClockId(clock).name} is at its limit, and the {what}", reading)
-        if done is not None:
+        if done is not None and isinstance(error, (Invalid, Range)):
             error.done = done
         return error
 
