@@ -59,6 +59,7 @@ struct shared_page {
 	double nanos_per_cycle; /* of the host */
 	double speed;		/* ns of the counter in a ns of the host */
 	uint64_t update_nanos;	/* the span between two updates */
+	uint32_t node;		/* the number of the node: 0 for the program's clocks */
 
 	_Alignas(64) struct tkc_page page;
 	struct next_second seconds[2]; /* of the page's copies */
@@ -158,11 +159,8 @@ struct control {
 struct machine {
 	struct shared_page *shared;
 	struct control *control; /* NULL in a process of another user */
+	struct chunks *chunks;	 /* where the record is mapped, or NULL: rows.h */
 };
-
-/* Returns the machine of this process: of a program of a run, or of tkrun. A program without clocks
- * has none: NULL. */
-struct machine *machine(void);
 
 /* A command with its numbers, and the reading at which a script wants it. */
 struct order {
@@ -200,6 +198,9 @@ int machine_clock(clockid_t clock);
  * of tkc_page_look. */
 enum tkc_code machine_look(struct machine *machine, struct tkc_snapshot *out,
 			   uint64_t *reading);
+
+/* Lets this thread of tkrun read these clocks next: what it has kept of other nodes isn't theirs. */
+void machine_turn_to(const struct machine *machine);
 
 /* Counts the reads of this thread that aren't counted yet. */
 void machine_count_rest(struct machine *machine);

@@ -232,6 +232,15 @@ enum tkc_code machine_look(struct machine *machine, struct tkc_snapshot *out,
 	return code;
 }
 
+void machine_turn_to(const struct machine *machine)
+{
+	static _Thread_local const struct machine *present;
+
+	if (present != machine)
+		own_kept.sequence = NO_SEQUENCE;
+	present = machine;
+}
+
 void machine_count_rest(struct machine *machine)
 {
 	atomic_fetch_add(&machine->control->reads, own_reads % READS_IN_COUNT);

@@ -10,14 +10,20 @@
 
 enum { ROOM_WAIT = NANOS }; /* the longest wait for tkrun to make room */
 
-static _Atomic(struct record_row *) chunks[CHUNKS_MOST];
+/* Returns the machine's own chunks, or those of a program, which has only one machine. */
+static struct chunks *chunks_of(const struct machine *machine)
+{
+	static struct chunks chunks;
+
+	return machine->chunks ? machine->chunks : &chunks;
+}
 
 /* The C library's calls would change errno, and a thread may be cancelled at some of
  * them: neither happens where a program reads a clock. */
-static struct record_row *map_chunk(const struct rows *rows, uint64_t number)
+static struct record_row *map_chunk(const struct machine *machine, uint64_t number)
 {
 	const long size = ROWS_IN_CHUNK * sizeof(struct record_row);
-	long file = host_open(rows->path, O_RDWR, FILE_ROWS);
+	long file = host_open(machine->control->rows.path, O_RDWR, FILE_ROWS);
 	struct record_row *other = NULL;
 	long chunk;
 
@@ -28,7 +34,7 @@ static struct record_row *map_chunk(const struct rows *rows, uint64_t number)
 	host_call(SYS_close, file, 0, 0, 0, 0, 0);
 	if (chunk < 0)
 		return NULL;
-	if (atomic_compare_exchange_strong(&chunks[number], &other,
+	if (atomic_compare_exchange_strong(&chunks_of(machine)->of[number], &other,
 					   (struct record_row *)chunk))
 		return (struct record_row *)chunk;
 	host_call(SYS_munmap, chunk, size, 0, 0, 0, 0); /* another was faster */
@@ -55,8 +61,9 @@ static bool wait_room(struct rows *rows, uint64_t index)
 }
 
 /* Takes rows of one chunk that follow each other. Returns the first, or NULL. */
-static struct record_row *find_rows(struct rows *rows, uint64_t count)
+static struct record_row *find_rows(const struct machine *machine, uint64_t count)
 {
+	struct rows *rows = &machine->control->rows;
 	uint64_t index, number;
 	struct record_row *chunk;
 
@@ -70,9 +77,10 @@ static struct record_row *find_rows(struct rows *rows, uint64_t count)
 						  memory_order_acquire) &&
 	     !wait_room(rows, index + count - 1)))
 		return NULL;
-	chunk = atomic_load_explicit(&chunks[number], memory_order_acquire);
+	chunk = atomic_load_explicit(&chunks_of(machine)->of[number],
+				     memory_order_acquire);
 	if (!chunk)
-		chunk = map_chunk(rows, number);
+		chunk = map_chunk(machine, number);
 	return chunk ? &chunk[index % ROWS_IN_CHUNK] : NULL;
 }
 
@@ -82,12 +90,13 @@ void rows_steer(struct rows *rows)
 }
 
 /* Takes rows, or counts a lost one. */
-static struct record_row *take_rows(struct rows *rows, uint64_t count)
+static struct record_row *take_rows(const struct machine *machine, uint64_t count)
 {
+	struct rows *rows = &machine->control->rows;
 	struct record_row *slot = NULL;
 
 	if (!atomic_load_explicit(&rows->lost, memory_order_relaxed))
-		slot = find_rows(rows, count);
+		slot = find_rows(machine, count);
 	if (!slot)
 		atomic_fetch_add(&rows->lost, 1);
 	return slot;
@@ -106,7 +115,7 @@ static void put_row(struct record_row *slot, const struct record_row *row)
 
 void rows_add(struct machine *machine, const struct record_row *row)
 {
-	struct record_row *slot = take_rows(&machine->control->rows, 1);
+	struct record_row *slot = take_rows(machine, 1);
 
 	if (slot)
 		put_row(slot, row);
@@ -120,12 +129,12 @@ _Static_assert(sizeof(struct asked_words) <=
 void rows_add_asked(struct machine *machine, const struct record_row *row,
 		    const struct asked_words *asked)
 {
-	struct rows *rows = &machine->control->rows;
 	int64_t words[WORDS_ROWS][4] = { 0 };
 	struct record_row *slot;
 
-	rows_steer(rows); /* tkrun may read it as soon as it has counted the rows */
-	slot = take_rows(rows, 1 + WORDS_ROWS);
+	/* tkrun may read it as soon as it has counted the rows */
+	rows_steer(&machine->control->rows);
+	slot = take_rows(machine, 1 + WORDS_ROWS);
 	if (!slot)
 		return;
 	memcpy(words, asked, sizeof(*asked));

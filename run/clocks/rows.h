@@ -37,6 +37,12 @@ struct words_row {
 
 enum { WORDS_ROWS = 6 };
 
+/* The chunks that a process has mapped. A program has those of one record, and tkrun those of
+ * each node's. */
+struct chunks {
+	_Atomic(struct record_row *) of[CHUNKS_MOST];
+};
+
 /* A request of adjtimex, and its reply. */
 struct asked_words {
 	int64_t modes, offset, freq, maxerror, esterror, status, constant, tick,

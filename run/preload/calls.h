@@ -30,6 +30,9 @@
 		real_##name;                                               \
 	})
 
+/* Returns the machine of this process, or NULL if it has no clocks. */
+struct machine *machine(void);
+
 /* Finds a function of the C library, or ends the process. */
 void *real_call(const char *name);
 

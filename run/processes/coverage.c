@@ -1,7 +1,7 @@
 /* SPDX-License-Identifier: MIT OR Apache-2.0 */
 /*
- * coverage.c - finds processes that have no clocks. One that has them has mapped their page: the
- * library maps it, and so does tkrun with its image.
+ * coverage.c - finds processes that have no clocks. One that has them has mapped their page, of any
+ * node: the library maps it, and so does tkrun with its image.
  */
 #define _GNU_SOURCE
 #include "coverage.h"
@@ -24,14 +24,15 @@ enum {
 	CHECKS_LOADED = 10, /* the same if it has loaded the library */
 };
 
-static char page[NAME_MAX]; /* how the name of the page ends, wherever its folder is mounted */
+/* A part of the names of all pages, wherever their folder is mounted. */
+static char folder_name[NAME_MAX];
 
 static _Atomic pid_t added[ADDED_MOST];
 static size_t added_count;
 
 void coverage_start(const char *folder)
 {
-	snprintf(page, sizeof(page), "%s/page", strrchr(folder, '/'));
+	snprintf(folder_name, sizeof(folder_name), "%s/", strrchr(folder, '/'));
 }
 
 void coverage_remove(pid_t process)
@@ -151,7 +152,7 @@ static struct mapped read_maps(int32_t process)
 		const char *name = strrchr(line, '/');
 
 		mapped.has_file |= name != NULL;
-		mapped.has_clocks |= strstr(line, page) != NULL;
+		mapped.has_clocks |= strstr(line, folder_name) != NULL;
 		if (name && !strncmp(name, "/ld-", 4))
 			mapped.has_loader = true;
 		else if (name && !strncmp(name, "/libtkrun.so", 12))

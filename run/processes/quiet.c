@@ -32,13 +32,13 @@ static bool still_runs(struct tree *tree)
 	return false;
 }
 
-/* Notes which waits the threads have. */
-static void find_waits(struct tree *tree)
+/* Notes which waits of a list the threads have. */
+static void find_waits_of(struct tree *tree, const struct control *control)
 {
-	uint32_t count = atomic_load(&tree->control->waiters_count);
+	uint32_t count = atomic_load(&control->waiters_count);
 
 	for (uint32_t i = 0; i < count; i++) {
-		const struct waiter *waiter = &tree->control->waiters[i];
+		const struct waiter *waiter = &control->waiters[i];
 		uint64_t owner = atomic_load(&waiter->owner);
 		struct thread_state *thread =
 			owner_thread(owner) > 0
@@ -50,6 +50,12 @@ static void find_waits(struct tree *tree)
 		thread->waits = (thread->waits + i) * HASH + owner;
 		thread->slices += atomic_load(&waiter->slices);
 	}
+}
+
+static void find_waits(struct tree *tree)
+{
+	for (size_t i = 0; i < tree->control_count; i++)
+		find_waits_of(tree, tree->controls[i]);
 }
 
 /* Returns whether a thread has run only between slices of the same wait. In another wait it would
@@ -92,7 +98,8 @@ static bool scan_again(const struct tree *first, struct tree *second)
 bool tree_is_quiet(struct tree *tree)
 {
 	struct tree second = { .has_filter = tree->has_filter,
-			       .control = tree->control };
+			       .controls = tree->controls,
+			       .control_count = tree->control_count };
 	const struct thread_state *running;
 	bool is_quiet;
 

@@ -28,7 +28,8 @@ struct process {
 
 struct tree {
 	bool has_filter; /* tkrun answers calls of the processes */
-	const struct control *control; /* the list of those that wait */
+	const struct control **controls; /* the lists of those that wait */
+	size_t control_count;
 	int32_t running; /* a thread that didn't wait at the last scan, or was woken, or 0 */
 	struct thread_state *threads;
 	size_t count, room;

@@ -42,12 +42,10 @@ static void make_room(struct recording *recording, struct rows *rows)
 	}
 }
 
-static struct control *shared_control;
-
 static void *keep_room(void *argument)
 {
 	struct recording *recording = argument;
-	struct rows *rows = &shared_control->rows;
+	struct rows *rows = &recording->control->rows;
 	uint32_t wanted;
 
 	while (!__atomic_load_n(&recording->is_over, __ATOMIC_ACQUIRE) &&
@@ -82,7 +80,7 @@ void recording_start(struct recording *recording, struct control *control,
 	strcpy(rows->path, recording->rows_path);
 	rows->every = options->every;
 	rows->reads_most = options->reads_most;
-	shared_control = control;
+	recording->control = control;
 	make_room(recording, rows);
 	if (pthread_create(&recording->thread, NULL, keep_room, recording))
 		fail(STATUS_FAILED, "cannot start a thread");
@@ -222,8 +220,7 @@ bool recording_write(struct recording *recording, struct machine *machine,
 	struct list *list = &recording->list;
 	int error = 0;
 
-	if (atomic_load(&rows->is_steered))
-		steered_mask = machine->shared->mask;
+	steered_mask = atomic_load(&rows->is_steered) ? machine->shared->mask : 0;
 	__atomic_store_n(&recording->is_over, true, __ATOMIC_RELEASE);
 	pthread_join(recording->thread, NULL);
 	if (count > atomic_load(&rows->room))

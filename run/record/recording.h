@@ -25,6 +25,7 @@ struct part {
 struct recording {
 	const char *path;
 	char rows_path[4096];
+	struct control *control; /* of the clocks */
 	int rows_file;
 	int error;	  /* errno, if rows couldn't be kept */
 	uint64_t missing; /* the first row that is missing then */

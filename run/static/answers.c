@@ -75,10 +75,10 @@ static int read_second(struct machine *m, const struct seccomp_notif *ask,
 }
 
 /* A call that a thread has made, for --log. */
-static struct logged_call asked_call(const struct seccomp_notif *ask,
+static struct logged_call asked_call(struct machine *m, const struct seccomp_notif *ask,
 				     const char *name, int result)
 {
-	struct log *log = &machine()->control->log;
+	struct log *log = &m->control->log;
 	char status[STATUS_BYTES];
 	int process = (int)ask->pid;
 
@@ -93,13 +93,13 @@ static int set_clock(struct machine *m, const struct seccomp_notif *ask)
 	struct timespec time;
 
 	if (clock != CLOCK_REALTIME) {
-		log_clock(asked_call(ask, "clock_settime", -EINVAL), clock);
+		log_clock(asked_call(m, ask, "clock_settime", -EINVAL), clock);
 		return EINVAL;
 	}
 	if (fetch(ask, ask->data.args[1], &time, sizeof(time)))
 		return EFAULT;
 	error = machine_set_time(m, time.tv_sec, time.tv_nsec);
-	log_time(asked_call(ask, "clock_settime", -error), time.tv_sec,
+	log_time(asked_call(m, ask, "clock_settime", -error), time.tv_sec,
 		 time.tv_nsec);
 	return error;
 }
@@ -117,7 +117,7 @@ static int set_micros(struct machine *m, const struct seccomp_notif *ask)
 	error = machine_set_micros(m, times ? &time : NULL,
 				   zones ? &zone : NULL);
 	if (times)
-		log_micros(asked_call(ask, "settimeofday", -error), &time);
+		log_micros(asked_call(m, ask, "settimeofday", -error), &time);
 	return error;
 }
 
@@ -127,7 +127,7 @@ static int set_micros(struct machine *m, const struct seccomp_notif *ask)
 static int sleep_until(struct machine *m, const struct seccomp_notif *ask,
 		       int clock, bool is_absolute, const uint64_t *addresses)
 {
-	struct sleep sleep = { .ask = *ask };
+	struct sleep sleep = { .ask = *ask, .machine = m };
 	struct timespec time;
 
 	if (clock < 0)
@@ -168,7 +168,7 @@ static int steer(struct machine *m, const struct seccomp_notif *ask,
 		return EFAULT;
 	in = timex;
 	state = machine_adjtimex(m, &timex);
-	log_request(asked_call(ask, name, state), &in);
+	log_request(asked_call(m, ask, name, state), &in);
 	if (state < 0)
 		return -state;
 	*value = state;
@@ -191,9 +191,12 @@ static bool is_command(long call)
 	       call == SYS_adjtimex || call == SYS_clock_adjtime;
 }
 
-static int make_call(struct machine *m, const struct seccomp_notif *ask,
+static int make_call(size_t node, const struct seccomp_notif *ask,
 		     int64_t *value)
 {
+	struct machine *m = node_machine(node);
+
+	machine_turn_to(m);
 	if (is_command(ask->data.nr) && !files_may_command((int)ask->pid))
 		return EPERM;
 	switch (ask->data.nr) {
@@ -219,7 +222,7 @@ static int make_call(struct machine *m, const struct seccomp_notif *ask,
 	case SYS_clock_adjtime:
 		return steer_clock(m, ask, value);
 	case CALL_FILE:
-		return files_give(listener, ask, value);
+		return files_give(listener, ask, node, value);
 	case CALL_ATTACHED:
 		coverage_remove((pid_t)ask->pid);
 		return 0;
@@ -228,13 +231,18 @@ static int make_call(struct machine *m, const struct seccomp_notif *ask,
 	}
 }
 
-/* Answers a call that doesn't execute a program. A sleep is answered later. */
+/* Answers a call that doesn't execute a program. A sleep is answered later. If a thread was killed,
+ * another one may have its number, and belong to another node. */
 static void answer(const struct seccomp_notif *ask)
 {
 	struct seccomp_notif_resp reply = { .id = ask->id };
+	size_t node = node_of((int)ask->pid);
 	int64_t value = 0;
-	int error = make_call(machine(), ask, &value);
+	int error;
 
+	if (node_count() > 1 && !filter_has_call(listener, ask->id))
+		return;
+	error = make_call(node, ask, &value);
 	if (error == CALL_LATER)
 		return;
 	if (error == CALL_HOST) {

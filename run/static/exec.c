@@ -54,7 +54,7 @@ static const char *replace_vdso(pid_t process)
 		replace_at(process, place);
 	else if (errno == EPERM)
 		return "its memory can't be read";
-	atomic_fetch_add(&machine()->control->attached, 1);
+	atomic_fetch_add(&node_machine(node_of(process))->control->attached, 1);
 	return NULL;
 }
 
@@ -160,6 +160,13 @@ void exec_follow(int listener, const struct seccomp_notif *ask)
 		filter_continue(listener, ask->id);
 }
 
+/* A program that has executed another one may have been on another node: `tkrun node`. */
+static void forget_waits(pid_t thread)
+{
+	for (size_t i = 0; i < node_count(); i++)
+		waiters_forget(node_machine(i), thread);
+}
+
 /* A thread whose call has failed stays traced until its next stop. */
 void exec_stopped(pid_t thread, int status)
 {
@@ -167,7 +174,7 @@ void exec_stopped(pid_t thread, int status)
 	const char *reason = NULL;
 
 	if (event == PTRACE_EVENT_EXEC) {
-		waiters_forget(machine(), thread);
+		forget_waits(thread);
 		reason = replace_vdso(thread);
 	}
 	if (reason)

@@ -8,24 +8,31 @@
 #include <fcntl.h>
 #include <limits.h>
 #include <stdio.h>
+#include <stdlib.h>
 #include <sys/ioctl.h>
 #include <unistd.h>
 
-static int files[CLOCK_FILES];
+static int (*all_files)[CLOCK_FILES]; /* by the node */
 
-bool files_open(const char *folder)
+bool files_open(size_t node, const char *folder)
 {
 	static const int FLAGS[CLOCK_FILES] = {
 		[FILE_PAGE] = O_RDONLY,	  [FILE_PAGE_WRITABLE] = O_RDWR,
 		[FILE_CONTROL] = O_RDWR,  [FILE_ROWS] = O_RDWR,
 		[FILE_LOG] = O_WRONLY | O_APPEND,
 	};
-	const struct control *control = machine()->control;
+	const struct control *control = node_machine(node)->control;
 	char page[PATH_MAX], commands[PATH_MAX];
 	const char *paths[CLOCK_FILES] = { page, page, commands,
 					   control->rows.path,
 					   control->log.path };
+	int *files;
 
+	if (!all_files)
+		all_files = calloc(node_count(), sizeof(*all_files));
+	if (!all_files)
+		return false;
+	files = all_files[node];
 	snprintf(page, sizeof(page), "%s/page", folder);
 	snprintf(commands, sizeof(commands), "%s/control", folder);
 	for (int i = 0; i < CLOCK_FILES; i++) {
@@ -43,10 +50,11 @@ bool files_may_command(int thread)
 	return status_read(thread, status) && status_user(status) == geteuid();
 }
 
-int files_give(int listener, const struct seccomp_notif *ask, int64_t *value)
+int files_give(int listener, const struct seccomp_notif *ask, size_t node, int64_t *value)
 {
 	struct seccomp_notif_addfd added = { .id = ask->id,
 					     .newfd_flags = O_CLOEXEC };
+	const int *files = all_files[node];
 	uint64_t which = ask->data.args[0];
 
 	if (which >= CLOCK_FILES || files[which] < 0)

@@ -135,9 +135,9 @@ bool sleepers_add(const struct sleep *sleep)
 	stopped = find_stopped(sleep->ask.pid);
 	if (stopped)
 		remove_sleeper(stopped);
-	if (machine()->shared->kind == COUNTER_SLEEPS)
+	if (sleep->machine->shared->kind == COUNTER_SLEEPS)
 		sleeper->ticket = waiter_enter_for(
-			machine(), (int32_t)sleep->ask.pid, (uint32_t)sleep->clock,
+			sleep->machine, (int32_t)sleep->ask.pid, (uint32_t)sleep->clock,
 			sleep->end.tv_sec, (uint32_t)sleep->end.tv_nsec);
 	sleeper->next = sleepers;
 	sleepers = sleeper;
@@ -163,7 +163,8 @@ static int store_rest(const struct sleep *sleep)
 
 	if (!sleep->rest)
 		return 0;
-	rest = machine_until(machine(), sleep->clock, &sleep->end);
+	machine_turn_to(sleep->machine);
+	rest = machine_until(sleep->machine, sleep->clock, &sleep->end);
 	return answer_put(&sleep->ask, sleep->rest, &rest, sizeof(rest));
 }
 
@@ -226,7 +227,7 @@ static bool is_over(struct sleeper *sleeper, bool checks_signals,
 {
 	const struct sleep *sleep = &sleeper->sleep;
 
-	*left = machine_left(machine(), (uint32_t)sleep->clock,
+	*left = machine_left(sleep->machine, (uint32_t)sleep->clock,
 			     sleep->end.tv_sec, (uint32_t)sleep->end.tv_nsec);
 	if (sleeper->is_stopped && !*left) {
 		waiter_leave(&sleeper->ticket);
@@ -243,7 +244,7 @@ static bool is_over(struct sleeper *sleeper, bool checks_signals,
 /* Ends the sleeps that are over. Returns the ns until the next check. */
 static uint64_t end_due(void)
 {
-	uint64_t least = machine()->shared->kind == COUNTER_SLEEPS
+	uint64_t least = node_machine(0)->shared->kind == COUNTER_SLEEPS
 				 ? CHECK_SLEEPS_NANOS
 				 : CHECK_NANOS;
 	static uint64_t signals_next;

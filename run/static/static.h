@@ -12,6 +12,18 @@
 
 #include <linux/seccomp.h>
 
+/* A process belongs to the node with this soft limit of file locks minus NODE_LIMIT, or to node 0.
+ * Kernels since Linux 2.4.25 don't read this limit. It is inherited by forks and by the programs
+ * that a process executes, also without an environment. */
+#define NODE_LIMIT 0x746b720000000000
+
+/* Returns the number of a thread's node, from 0 to node_count() - 1. */
+size_t node_of(int thread);
+size_t node_count(void);
+
+/* Returns the clocks of a node. */
+struct machine *node_machine(size_t node);
+
 /* Returns whether a file is a static program for this machine. */
 bool is_static_file(const char *path);
 
@@ -49,6 +61,7 @@ int answer_put(const struct seccomp_notif *ask, uint64_t address,
 /* A sleep, by the call that has asked for it. */
 struct sleep {
 	struct seccomp_notif ask;
+	struct machine *machine;
 	int clock;
 	struct timespec end; /* on the clock */
 	uint64_t rest; /* the address where a signal stores what is left, or 0 */
@@ -77,15 +90,15 @@ bool sleepers_start(int listener);
 /* Starts the thread that answers. Returns false if it can't. */
 bool answers_start(int listener);
 
-/* Opens the files of the clocks. Returns false if it can't. */
-bool files_open(const char *folder);
+/* Opens the files of a node's clocks. Returns false if it can't. */
+bool files_open(size_t node, const char *folder);
 
 /* Returns whether a thread is of the user who may command the clocks. */
 bool files_may_command(int thread);
 
-/* Gives one to a process that has asked for it, and stores its number there. Returns 0 or an
- * errno. */
-int files_give(int listener, const struct seccomp_notif *ask, int64_t *value);
+/* Gives one of a node to a process that has asked for it, and stores its number there. Returns 0 or
+ * an errno. */
+int files_give(int listener, const struct seccomp_notif *ask, size_t node, int64_t *value);
 
 /* The programs that wait for being executed. The file that execs_open returns can be read when
  * there may be some, and SIGCHLD comes; execs_wait_no_more empties it. Returns -1 if it can't. */

@@ -17,21 +17,21 @@ struct idle {
 };
 
 /* Returns what is known of a waiter whose time has come, by its place in the list. */
-struct idle *idle_of(uint32_t index, uint64_t owner);
+struct idle *idle_of(const struct node *node, uint32_t index, uint64_t owner);
 
 /* Wakes a waiter when its time is first seen to have come. Returns whether that was just now. */
-bool idle_is_fresh(const struct run *run, uint32_t index, uint64_t owner);
+bool idle_is_fresh(const struct node *node, uint32_t index, uint64_t owner);
 
 /* Wakes a waiter, unless it was woken lately. */
-void idle_wake_again(const struct run *run, struct waiter *waiter,
+void idle_wake_again(const struct node *node, struct waiter *waiter,
 		     struct idle *idle, uint64_t now);
 
 /* Passes over a waiter whose time has come if its thread, which was just scanned, hasn't
  * run for some time. Returns false if the thread still may act. */
-bool idle_pass_over(const struct run *run, uint32_t index, uint64_t owner);
+bool idle_pass_over(const struct node *node, uint32_t index, uint64_t owner);
 
 /* Return whether a waiter was passed over, and whether it is left alone for now. */
-bool idle_is_passed(uint32_t index, uint64_t owner);
-bool idle_is_left_alone(uint32_t index, uint64_t owner);
+bool idle_is_passed(const struct node *node, uint32_t index, uint64_t owner);
+bool idle_is_left_alone(const struct node *node, uint32_t index, uint64_t owner);
 
 #endif

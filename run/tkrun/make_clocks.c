@@ -1,11 +1,12 @@
 /* SPDX-License-Identifier: MIT OR Apache-2.0 */
 /* make_clocks.c - makes the clocks that the processes of a run share. */
 #define _GNU_SOURCE
-#include "tkrun.h"
+#include "idle.h"
+
+#include "clocks/rows.h"
 
 #include <errno.h>
 #include <fcntl.h>
-#include <math.h>
 #include <stdio.h>
 #include <stdlib.h>
 #include <string.h>
@@ -73,79 +74,99 @@ static void *make_file(const char *folder, const char *name, size_t size,
 	return memory == MAP_FAILED ? NULL : memory;
 }
 
-/* Makes the folder of the clocks: in /dev/shm, or else in TMPDIR or /tmp. */
-static void make_folder(struct run *run)
+/* Makes the files of a folder that is there. Returns false if it can't. */
+static bool make_files(struct node *node)
 {
-	const char *temporary = getenv("TMPDIR");
-	const char *places[] = { "/dev/shm", temporary ? temporary : "/tmp" };
-	struct machine *machine = &run->machine;
+	struct machine *machine = &node->machine;
 
-	for (int i = 0; i < 2; i++) {
-		snprintf(run->folder, sizeof(run->folder), "%s/tkrun.XXXXXX",
-			 places[i]);
-		if (!mkdtemp(run->folder))
-			continue;
-		chmod(run->folder, 0755);
-		machine->shared = make_file(run->folder, "page",
-					    sizeof(*machine->shared), 0644);
-		machine->control = make_file(run->folder, "control",
-					     sizeof(*machine->control), 0600);
-		if (machine->shared && machine->control)
-			return;
-		remove_files(run);
-	}
+	chmod(node->folder, 0755);
+	machine->shared = make_file(node->folder, "page",
+				    sizeof(*machine->shared), 0644);
+	machine->control = make_file(node->folder, "control",
+				     sizeof(*machine->control), 0600);
+	return machine->shared && machine->control;
+}
+
+__attribute__((noreturn)) static void fail_clocks(void)
+{
 	fail(STATUS_FAILED, "cannot make the shared clocks: %s",
 	     strerror(errno));
 }
 
-void remove_files(const struct run *run)
+/* Makes the folder of the first clocks: in /dev/shm, or else in TMPDIR or /tmp. */
+static void make_folder(struct node *node)
+{
+	const char *temporary = getenv("TMPDIR");
+	const char *places[] = { "/dev/shm", temporary ? temporary : "/tmp" };
+
+	for (int i = 0; i < 2; i++) {
+		snprintf(node->folder, sizeof(node->folder), "%s/tkrun.XXXXXX",
+			 places[i]);
+		if (!mkdtemp(node->folder))
+			continue;
+		if (make_files(node))
+			return;
+		remove_files(node);
+	}
+	fail_clocks();
+}
+
+/* Makes the folder of a node in that of the first clocks, by which `tkrun node` finds it. */
+static void make_node_folder(struct node *node, const char *first)
+{
+	snprintf(node->folder, sizeof(node->folder), "%.*s/" NODE_FOLDER "%s",
+		 (int)sizeof(node->folder) - 64, first, node->options.name);
+	if (mkdir(node->folder, 0755) || !make_files(node))
+		fail_clocks();
+}
+
+void remove_files(const struct node *node)
 {
 	char path[PATH_MAX];
 
-	if (!*run->folder)
+	if (!*node->folder)
 		return; /* nothing was made */
-	snprintf(path, sizeof(path), "%s/page", run->folder);
+	snprintf(path, sizeof(path), "%s/page", node->folder);
 	unlink(path);
-	snprintf(path, sizeof(path), "%s/control", run->folder);
+	snprintf(path, sizeof(path), "%s/control", node->folder);
 	unlink(path);
-	rmdir(run->folder);
-	if (*run->recording.rows_path)
-		unlink(run->recording.rows_path);
-	if (*run->scratch) {
-		unlink(run->recording.path);
-		rmdir(run->scratch);
+	rmdir(node->folder);
+	if (*node->recording.rows_path)
+		unlink(node->recording.rows_path);
+	if (*node->scratch) {
+		unlink(node->recording.path);
+		rmdir(node->scratch);
 	}
 }
 
-/* Sets the cycles for each unit of the host, as a fraction of 2^63. */
+/* Sets the cycles for each unit of the host, or of the common counter of sleeps. */
 static void set_scale(struct shared_page *shared, long double ratio)
 {
-	int exponent;
-	long double part = frexpl(ratio, &exponent);
+	struct pace pace = pace_of(ratio);
 
-	shared->scale = ratio == 1 ? 1 : (uint64_t)(part * 0x1p63L);
-	shared->scale_shift = ratio == 1 ? 0 : (uint32_t)(63 - exponent);
+	shared->scale = pace.scale;
+	shared->scale_shift = pace.shift;
 }
 
 /* Describes how the counter moves. Ends tkrun if it wraps too fast. */
-static void set_counter(struct run *run, double host_hz)
+static void set_counter(struct node *node, double host_hz)
 {
-	const struct options *options = &run->options;
-	struct shared_page *shared = run->machine.shared;
+	const struct options *options = &node->options;
+	struct shared_page *shared = node->machine.shared;
 	double speed = options->speed * (1 + options->error_ppm * 1e-6);
 	uint32_t bits, mult, shift;
 	double half;
 
-	tkc_counter_numbers(&bits, &mult, &shift, &run->plan.counter);
+	tkc_counter_numbers(&bits, &mult, &shift, &node->plan.counter);
 	shared->kind = options->counter;
 	shared->mask = UINT64_MAX >> (64 - bits);
-	shared->first = run->plan.first;
+	shared->first = node->plan.first;
 	set_scale(shared,
 		  !options->hz && !options->script &&
 				  options->counter == COUNTER_TSC
 			  ? (long double)speed
-			  : (long double)run->plan.hz * speed / host_hz);
-	shared->nanos_per_cycle = 1e9 / (run->plan.hz * speed);
+			  : (long double)node->plan.hz * speed / host_hz);
+	shared->nanos_per_cycle = 1e9 / (node->plan.hz * speed);
 	shared->speed = speed;
 	half = (double)(shared->mask / 2) * shared->nanos_per_cycle;
 	if (half < LEAST_WRAP / 2 && options->counter != COUNTER_SLEEPS)
@@ -156,20 +177,73 @@ static void set_counter(struct run *run, double host_hz)
 		half / 4 < UPDATE_NANOS ? (uint64_t)(half / 4) : UPDATE_NANOS;
 }
 
-void open_machine(struct run *run)
+/* Without --node, the common counter is that of the clocks. */
+static void set_pace(struct node *node, bool is_alone)
 {
-	double host_hz = measure(run->options.counter);
+	const struct shared_page *shared = node->machine.shared;
+
+	node->pace = (struct pace){ .scale = is_alone ? 1 : shared->scale,
+				    .shift = is_alone ? 0 : shared->scale_shift };
+}
+
+/* Makes the clocks of a node. All nodes count since the same moment of the host. */
+static void open_machine(const struct run *run, struct node *node, double host_hz)
+{
+	const struct node *first = node == run->nodes ? NULL : run->nodes;
 	struct shared_page *shared;
 
-	plan_make(&run->plan, &run->options, host_hz);
-	make_folder(run);
-	shared = run->machine.shared;
-	set_counter(run, host_hz);
-	shared->denies_set = run->options.denies_set;
-	shared->has_stamps = run->options.has_stamps;
+	fail_within(node->options.name);
+	plan_make(&node->plan, &node->options, host_hz, first ? &first->plan : NULL);
+	if (first)
+		make_node_folder(node, first->folder);
+	else
+		make_folder(node);
+	shared = node->machine.shared;
+	set_counter(node, host_hz);
+	set_pace(node, run->count == 1);
+	shared->node = (uint32_t)(node - run->nodes);
+	shared->denies_set = node->options.denies_set;
+	shared->has_stamps = node->options.has_stamps;
 	shared->calls_host = run->calls_host;
-	machine_init_lock(run->machine.control);
-	shared->base = machine_host(shared->kind);
-	machine_init_clocks(&run->machine, &run->plan.clocks);
+	machine_init_lock(node->machine.control);
+	shared->base = first ? first->machine.shared->base
+			     : machine_host(shared->kind);
+	machine_init_clocks(&node->machine, &node->plan.clocks);
 	shared->layout = MACHINE_LAYOUT;
+	fail_within(NULL);
+}
+
+/* Gives each node the options of the program's clocks, or its own. */
+static void list_nodes(struct run *run)
+{
+	const struct options *options = &run->nodes->options;
+
+	run->count = 1 + options->node_count;
+	for (size_t i = 1; i < run->count; i++)
+		run->nodes[i].options = options->nodes[i - 1];
+	for (size_t i = 0; i < run->count; i++) {
+		struct node *node = &run->nodes[i];
+
+		node->tree = &run->tree;
+		node->idles = calloc(WAITERS_MOST, sizeof(*node->idles));
+		node->machine.chunks = calloc(1, sizeof(*node->machine.chunks));
+		if (!node->idles || !node->machine.chunks)
+			fail(STATUS_FAILED, "out of memory");
+	}
+}
+
+void open_machines(struct run *run)
+{
+	double host_hz = measure(run->nodes->options.counter);
+	struct tree *tree = &run->tree;
+
+	list_nodes(run);
+	tree->controls = calloc(run->count, sizeof(*tree->controls));
+	if (!tree->controls)
+		fail(STATUS_FAILED, "out of memory");
+	for (size_t i = 0; i < run->count; i++) {
+		open_machine(run, &run->nodes[i], host_hz);
+		tree->controls[tree->control_count++] =
+			run->nodes[i].machine.control;
+	}
 }

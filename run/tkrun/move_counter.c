@@ -17,23 +17,23 @@ enum {
 
 /* Returns the cycles until a waiter's time, or 0 if its thread is about to wait, or
  * the entry isn't this owner's any more. */
-static uint64_t waiter_left(struct run *run, const struct waiter *waiter,
+static uint64_t waiter_left(struct node *node, const struct waiter *waiter,
 			    uint64_t owner)
 {
 	uint64_t left;
 
 	if (owner_thread(owner) < 0)
 		return 0;
-	left = machine_cycles_left(&run->machine, waiter->clock, waiter->sec,
+	left = machine_cycles_left(&node->machine, waiter->clock, waiter->sec,
 				   waiter->nsec);
 	return atomic_load(&waiter->owner) == owner ? left : 0;
 }
 
 /* Returns the cycles until the first of the waiting threads' times, and NEVER
  * if none waits. Frees the entries of threads that are gone. */
-static uint64_t first_waiter(struct run *run)
+static uint64_t first_waiter(struct node *node)
 {
-	struct control *control = run->machine.control;
+	struct control *control = node->machine.control;
 	uint32_t count = atomic_load(&control->waiters_count);
 	uint64_t least = NEVER, left;
 
@@ -42,24 +42,24 @@ static uint64_t first_waiter(struct run *run)
 		uint64_t owner = atomic_load(&waiter->owner);
 		int32_t thread = abs(owner_thread(owner));
 
-		if (!thread || idle_is_passed(i, owner))
+		if (!thread || idle_is_passed(node, i, owner))
 			continue;
-		if (!tree_find(&run->tree, thread)) {
-			if (tree_check(&run->tree, thread))
+		if (!tree_find(node->tree, thread)) {
+			if (tree_check(node->tree, thread))
 				return 0; /* not all wait any more */
 			waiter_free(waiter, owner);
 			continue;
 		}
-		left = waiter_left(run, waiter, owner);
+		left = waiter_left(node, waiter, owner);
 		least = left < least ? left : least;
 	}
 	return least;
 }
 
 /* Returns whether a thread still has to act on a time that has come. */
-static bool has_reached(struct run *run)
+static bool has_reached(struct node *node)
 {
-	struct control *control = run->machine.control;
+	struct control *control = node->machine.control;
 	uint32_t count = atomic_load(&control->waiters_count);
 
 	for (uint32_t i = 0; i < count; i++) {
@@ -67,23 +67,23 @@ static bool has_reached(struct run *run)
 		uint64_t owner = atomic_load(&waiter->owner);
 		int32_t thread = abs(owner_thread(owner));
 
-		if (!thread || waiter_left(run, waiter, owner) ||
-		    idle_is_left_alone(i, owner))
+		if (!thread || waiter_left(node, waiter, owner) ||
+		    idle_is_left_alone(node, i, owner))
 			continue;
-		if (idle_is_fresh(run, i, owner))
+		if (idle_is_fresh(node, i, owner))
 			return true;
-		if (!tree_check(&run->tree, thread))
+		if (!tree_check(node->tree, thread))
 			waiter_free(waiter, owner);
-		else if (!idle_pass_over(run, i, owner))
+		else if (!idle_pass_over(node, i, owner))
 			return true;
 	}
 	return false;
 }
 
 /* Wakes the threads whose time has come. The next look is at one of them first. */
-static void wake_reached(struct run *run)
+static void wake_reached(struct node *node)
 {
-	struct machine *machine = &run->machine;
+	struct machine *machine = &node->machine;
 	struct control *control = machine->control;
 	uint32_t count = atomic_load(&control->waiters_count);
 
@@ -92,63 +92,61 @@ static void wake_reached(struct run *run)
 		uint64_t owner = atomic_load(&waiter->owner);
 
 		if (owner_thread(owner) <= 0 ||
-		    waiter_left(run, waiter, owner) || idle_is_passed(i, owner))
+		    waiter_left(node, waiter, owner) || idle_is_passed(node, i, owner))
 			continue;
-		run->tree.running = owner_thread(owner);
-		idle_is_fresh(run, i, owner);
+		node->tree->running = owner_thread(owner);
+		idle_is_fresh(node, i, owner);
 	}
 }
 
 /* Wakes a thread whose time has come, or frees its entry if it is gone. Returns the
  * host's time at which to look at it again. */
-static uint64_t wake_late(struct run *run, uint32_t index, uint64_t owner,
+static uint64_t wake_late(struct node *node, uint32_t index, uint64_t owner,
 			  uint64_t now)
 {
-	struct waiter *waiter = &run->machine.control->waiters[index];
-	struct idle *idle = idle_of(index, owner);
+	struct waiter *waiter = &node->machine.control->waiters[index];
+	struct idle *idle = idle_of(node, index, owner);
 	char status[STATUS_BYTES];
 
 	if (now >= idle->next && !status_read(owner_thread(owner), status)) {
 		waiter_free(waiter, owner);
 		return NEVER;
 	}
-	idle_wake_again(run, waiter, idle, now);
+	idle_wake_again(node, waiter, idle, now);
 	return idle->next;
 }
 
 /* Wakes a thread if its time has come before its slice ends. Returns the host's time at
  * which to look at it again. */
-static uint64_t wake_if_due(struct run *run, uint32_t index, uint64_t now)
+static uint64_t wake_if_due(struct node *node, uint32_t index, uint64_t now)
 {
-	struct waiter *waiter = &run->machine.control->waiters[index];
+	struct waiter *waiter = &node->machine.control->waiters[index];
 	uint64_t owner = atomic_load(&waiter->owner), left;
 
 	if (owner_thread(owner) <= 0)
 		return NEVER;
-	left = machine_left(&run->machine, waiter->clock, waiter->sec,
+	left = machine_left(&node->machine, waiter->clock, waiter->sec,
 			    waiter->nsec);
 	if (left == NEVER || atomic_load(&waiter->owner) != owner ||
 	    atomic_load(&waiter->slice_end) < now + left + SLICE_SLACK)
 		return NEVER;
-	return left ? now + left : wake_late(run, index, owner, now);
+	return left ? now + left : wake_late(node, index, owner, now);
 }
 
-void wake_changed(struct run *run)
+void wake_changed(struct node *node)
 {
-	static uint64_t next;
-	static uint32_t seen;
-	struct control *control = run->machine.control;
-	uint32_t changes = atomic_load(&run->machine.shared->generation),
+	struct control *control = node->machine.control;
+	uint32_t changes = atomic_load(&node->machine.shared->generation),
 		 count = atomic_load(&control->waiters_count);
 	uint64_t now = host_nanos(CLOCK_MONOTONIC), due;
 
-	if (changes == seen && now < next)
+	if (changes == node->changes && now < node->next_look)
 		return;
-	seen = changes;
-	next = now + CHECK_NANOS;
+	node->changes = changes;
+	node->next_look = now + CHECK_NANOS;
 	for (uint32_t i = 0; i < count; i++) {
-		due = wake_if_due(run, i, now);
-		next = due < next ? due : next;
+		due = wake_if_due(node, i, now);
+		node->next_look = due < node->next_look ? due : node->next_look;
 	}
 }
 
@@ -191,9 +189,9 @@ static bool is_last(const struct tree *tree, const struct thread_state *last)
 
 /* Wakes the threads that follow the clocks for timers, and that are the last ones of their
  * processes: they end these. Returns whether there are some. */
-static bool wake_last(struct run *run)
+static bool wake_last(struct node *node)
 {
-	struct control *control = run->machine.control;
+	struct control *control = node->machine.control;
 	uint32_t count = atomic_load(&control->waiters_count);
 	bool is_found = false;
 
@@ -202,10 +200,10 @@ static bool wake_last(struct run *run)
 		uint64_t owner = atomic_load(&waiter->owner);
 		const struct thread_state *thread =
 			owner_thread(owner) > 0 && is_follower(waiter)
-				? tree_find(&run->tree, owner_thread(owner))
+				? tree_find(node->tree, owner_thread(owner))
 				: NULL;
 
-		if (!thread || !is_last(&run->tree, thread))
+		if (!thread || !is_last(node->tree, thread))
 			continue;
 		atomic_store(&waiter->is_alone, true);
 		waiter_wake(control, waiter, owner);
@@ -214,32 +212,83 @@ static bool wake_last(struct run *run)
 	return is_found;
 }
 
-/* A thread may look at rest, then act on its time and leave the list. So the list is
- * looked at before the threads are, and after it. */
-bool move_counter(struct run *run)
+/* Returns the common counter when a node's has moved by some cycles, or NEVER. */
+static uint64_t common_after(const struct node *node, uint64_t cycles)
+{
+	if (cycles == NEVER)
+		return NEVER;
+	return pace_common(&node->pace,
+			   atomic_load(&node->machine.shared->cycles) + cycles);
+}
+
+/* Returns the common counter at the first of the threads' times and of the orders of all nodes.
+ * Returns NEVER if there is none, or if a thread is about to wait for a time that has come. */
+static uint64_t find_next(struct run *run)
+{
+	bool is_reached = false, is_due = false;
+	uint64_t least = NEVER;
+
+	for (size_t i = 0; i < run->count; i++) {
+		struct node *node = &run->nodes[i];
+		uint64_t waiter = first_waiter(node);
+		uint64_t order = plan_left(&node->plan, &node->machine);
+		uint64_t common = common_after(node, waiter < order ? waiter : order);
+
+		is_reached |= !waiter;
+		is_due |= !order;
+		least = common < least ? common : least;
+	}
+	if (is_due)
+		return run->elapsed;
+	return is_reached ? NEVER : least;
+}
+
+/* Moves a node's counter to the common one, and carries out its orders. */
+static void move_node(struct node *node, uint64_t common)
 {
 	static const struct order update = { .command = TKC_CMD_UPDATE };
-	struct machine *machine = &run->machine;
-	uint64_t cycles, order;
+	struct machine *machine = &node->machine;
 	sigset_t saved;
 
-	run->tree.has_filter = run->listener >= 0;
-	run->tree.control = machine->control;
-	if (has_reached(run) || !tree_is_quiet(&run->tree) ||
-	    (run->tree.has_filter && has_unanswered(run)) || wake_last(run))
-		return false;
-	cycles = first_waiter(run);
-	order = plan_left(&run->plan, machine);
-	cycles = order < cycles ? order : cycles;
-	if (order && (!cycles || cycles == NEVER))
-		return false;
 	machine_lock(machine, &saved);
-	atomic_fetch_add(&machine->shared->cycles, cycles);
-	plan_run(&run->plan, machine);
+	atomic_store(&machine->shared->cycles, pace_cycles(&node->pace, common));
+	plan_run(&node->plan, machine);
 	if (!machine_is_asleep(machine))
 		machine_apply(machine, &update, 1);
 	machine_unlock(machine, &saved);
-	wake_reached(run);
-	machine_wake(machine);
+}
+
+/* Returns whether all threads of all nodes wait. A thread may look at rest, then act on its time
+ * and leave the list. So the list is looked at before the threads are, and after it. */
+static bool all_wait(struct run *run)
+{
+	bool has_last = false;
+
+	for (size_t i = 0; i < run->count; i++) {
+		if (has_reached(&run->nodes[i]))
+			return false;
+	}
+	if (!tree_is_quiet(&run->tree) || (run->tree.has_filter && has_unanswered(run)))
+		return false;
+	for (size_t i = 0; i < run->count; i++)
+		has_last |= wake_last(&run->nodes[i]);
+	return !has_last;
+}
+
+bool move_counter(struct run *run)
+{
+	uint64_t common;
+
+	run->tree.has_filter = run->listener >= 0;
+	common = all_wait(run) ? find_next(run) : NEVER;
+	if (common == NEVER)
+		return false;
+	run->elapsed = common;
+	for (size_t i = 0; i < run->count; i++)
+		move_node(&run->nodes[i], common);
+	for (size_t i = 0; i < run->count; i++) {
+		wake_reached(&run->nodes[i]);
+		machine_wake(&run->nodes[i].machine);
+	}
 	return true;
 }

@@ -16,6 +16,7 @@ enum { READS_MOST = 10000000 }; /* in a record: 26 scripts */
 
 static const char USAGE[] =
 	"usage: tkrun [OPTIONS] -- PROGRAM ARGS..\n"
+	"       tkrun node NAME -- PROGRAM ARGS..\n"
 	"  --counter raw|tsc|sleeps  the counter (raw)\n"
 	"  --hz N, --bits N, --maxsec N\n"
 	"                            its description (1000000000 or the TSC's, 64, 1)\n"
@@ -33,15 +34,27 @@ static const char USAGE[] =
 	"  --deny-set                calls that set the clocks get EPERM\n"
 	"  --stamps                  converts the kernel's stamps of packets\n"
 	"  --log FILE                writes a line for each call that sets the clocks\n"
+	"  --node NAME[,OPTION=VALUE]..\n"
+	"                            a machine with its own clocks, any number: `tkrun node` runs\n"
+	"                            programs there\n"
 	"  --lax                     a program on the host's clocks doesn't end the run\n"
 	"  --static                  starts nothing if tkrun can't answer system calls\n"
 	"  --quiet                   prints no summary\n";
+
+static const char *node_name;
+
+void fail_within(const char *name)
+{
+	node_name = name;
+}
 
 void fail(int status, const char *form, ...)
 {
 	va_list list;
 
 	fputs("tkrun: ", stderr);
+	if (node_name)
+		fprintf(stderr, "--node %s: ", node_name);
 	va_start(list, form);
 	vfprintf(stderr, form, list);
 	va_end(list);
@@ -152,10 +165,8 @@ static void set_flag(struct options *o, const char *name)
 	o->is_quiet |= !strcmp(name, "quiet");
 }
 
-static void parse_option(struct options *o, const char *name)
+void parse_option(struct options *o, const char *name, const char *value)
 {
-	const char *value = optarg;
-
 	if (!strcmp(name, "counter"))
 		o->counter = parse_counter(value);
 	else if (!strcmp(name, "hz"))
@@ -184,6 +195,8 @@ static void parse_option(struct options *o, const char *name)
 		o->reads_most = whole(name, value, 0, INT64_MAX);
 	else if (!strcmp(name, "log"))
 		o->log = value;
+	else if (!strcmp(name, "node"))
+		add_node(o, value);
 	else
 		set_flag(o, name);
 	o->has_ahead |= !strcmp(name, "ahead");
@@ -205,8 +218,7 @@ static bool is_same_file(const char *one, const char *other)
 		a.st_ino == b.st_ino);
 }
 
-/* Ends tkrun if two options contradict each other. */
-static void compare_options(const struct options *o)
+void compare_options(const struct options *o)
 {
 	if (o->has_start && o->has_ahead)
 		fail(STATUS_WRONG, "--start and --ahead exclude each other");
@@ -221,7 +233,7 @@ static void compare_options(const struct options *o)
 	if ((o->every != 1 || o->limits_reads) && !o->record && !o->is_checked)
 		fail(STATUS_WRONG, "--%s needs --record or --check",
 		     o->limits_reads ? "reads" : "every");
-	if (o->counter == COUNTER_SLEEPS &&
+	if (o->counter == COUNTER_SLEEPS && !o->name &&
 	    (o->speed != 1 || o->error_ppm != 0))
 		fail(STATUS_WRONG,
 		     "--counter sleeps has no speed and no error: the host's time doesn't move it");
@@ -239,7 +251,8 @@ void parse_options(int count, char **words, struct options *options)
 		{ "check", 0, 0, 0 },	  { "deny-set", 0, 0, 0 },
 		{ "stamps", 0, 0, 0 },	  { "log", 1, 0, 0 },
 		{ "static", 0, 0, 0 },	  { "quiet", 0, 0, 0 },
-		{ "lax", 0, 0, 0 },	  { "help", 0, 0, 'h' },
+		{ "lax", 0, 0, 0 },	  { "node", 1, 0, 0 },
+		{ "help", 0, 0, 'h' },
 		{ "version", 0, 0, 'v' }, { "reads", 1, 0, 0 },
 		{ 0, 0, 0, 0 },
 	};
@@ -259,11 +272,12 @@ void parse_options(int count, char **words, struct options *options)
 			exit(0);
 		if (letter)
 			exit(STATUS_WRONG); /* getopt_long has said why */
-		parse_option(options, LIST[index].name);
+		parse_option(options, LIST[index].name, optarg);
 	}
 	if (optind == count)
 		fail(STATUS_WRONG,
 		     "no program: tkrun [OPTIONS] -- PROGRAM ARGS..");
 	compare_options(options);
+	parse_nodes(options);
 	options->program = words + optind;
 }

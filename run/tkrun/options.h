@@ -18,6 +18,12 @@ enum {
 /* The longest uptime, in s: MONOTONIC ends a second later. */
 enum { UPTIME_MOST = 946079999 };
 
+/* The most nodes, and the most bytes of a node's name. */
+enum { NODES_MOST = 64, NODE_NAME_MOST = 31 };
+
+/* How the name of a node's folder begins. */
+#define NODE_FOLDER "node."
+
 struct options {
 	enum counter_kind counter;
 	uint64_t hz; /* 0: the counter's own rate */
@@ -37,11 +43,31 @@ struct options {
 	bool limits_reads;   /* --reads is there */
 	bool is_checked, denies_set, has_stamps, is_quiet, is_static, is_lax;
 	char **program;
+	const char *name; /* of a node, or NULL */
+	const char *node_words[NODES_MOST];
+	size_t node_count;
+	struct options *nodes;
 };
 
 /* Parses the arguments. At a wrong one, ends tkrun with a sentence and
  * STATUS_WRONG. */
 void parse_options(int count, char **words, struct options *options);
+
+/* Parses the value of an option with this name. */
+void parse_option(struct options *options, const char *name, const char *value);
+
+/* Ends tkrun if two options contradict each other. A node has an error with any counter. */
+void compare_options(const struct options *options);
+
+/* Adds the words of a --node, and parses those of all, once the other options are known. */
+void add_node(struct options *options, const char *words);
+void parse_nodes(struct options *options);
+
+/* Returns whether a text may be the name of a node. */
+bool is_node_name(const char *text);
+
+/* Names the node that the sentences of `fail` are about, or none if it is NULL. */
+void fail_within(const char *name);
 
 /* Prints a sentence after "tkrun: ", and ends tkrun. */
 __attribute__((noreturn, format(printf, 2, 3))) void

@@ -132,10 +132,18 @@ static bool is_same(const struct tkc_counter *a, const struct tkc_counter *b)
 	return !memcmp(numbers[0], numbers[1], sizeof(numbers[0]));
 }
 
-static void set_start(struct plan *plan, const struct options *options)
+/* Returns the ns of REALTIME at which clocks start that aren't ahead. */
+static uint64_t start_of(const struct plan *first)
+{
+	return first ? (uint64_t)first->open_sec * NANOS + first->open_nsec
+		     : host_nanos(CLOCK_REALTIME);
+}
+
+static void set_start(struct plan *plan, const struct options *options,
+		      const struct plan *first)
 {
 	double ahead = floor(options->ahead);
-	uint64_t now = host_nanos(CLOCK_REALTIME) +
+	uint64_t now = start_of(first) +
 		       (uint64_t)llround((options->ahead - ahead) * 1e9);
 
 	plan->open_sec = (int64_t)(now / NANOS) + (int64_t)ahead;
@@ -154,7 +162,8 @@ static void set_start(struct plan *plan, const struct options *options)
 		     "--uptime: the clocks would have run before 1970");
 }
 
-void plan_make(struct plan *plan, const struct options *options, double hz)
+void plan_make(struct plan *plan, const struct options *options, double hz,
+	       const struct plan *first)
 {
 	struct tkc_counter counter;
 
@@ -173,7 +182,7 @@ void plan_make(struct plan *plan, const struct options *options, double hz)
 		fail(STATUS_WRONG,
 		     "--script opens another counter than the options describe");
 	if (!options->script)
-		set_start(plan, options);
+		set_start(plan, options, first);
 	if (!open_steered(plan))
 		fail(STATUS_WRONG, "the clocks can't start at second %lld",
 		     (long long)plan->open_sec);

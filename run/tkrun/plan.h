@@ -24,9 +24,11 @@ struct plan {
 	size_t count, next;
 };
 
-/* Makes the plan of the options. `hz` is the counter's own rate. At a wrong
- * script or counter, ends tkrun with a sentence. */
-void plan_make(struct plan *plan, const struct options *options, double hz);
+/* Makes the plan of the options. `hz` is the counter's own rate. The clocks of a node start with
+ * `first`, and those of the program with the host's. At a wrong script or counter, ends tkrun with
+ * a sentence. */
+void plan_make(struct plan *plan, const struct options *options, double hz,
+	       const struct plan *first);
 
 /* Makes the opened clocks without their discipline, for a record. */
 void plan_open_clock(const struct plan *plan, struct tkc_clock *clock);

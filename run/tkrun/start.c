@@ -14,6 +14,7 @@
 #include <stdlib.h>
 #include <string.h>
 #include <sys/prctl.h>
+#include <sys/resource.h>
 #include <sys/socket.h>
 #include <sys/syscall.h>
 #include <sys/wait.h>
@@ -95,15 +96,27 @@ static void install_filter(int socket, bool needs_filter)
 		_exit(STATUS_FAILED);
 }
 
+/* Lets the program belong to no node, also if this tkrun is inside another one. */
+static void leave_nodes(const struct run *run)
+{
+	struct rlimit limit;
+
+	if (run->count == 1 || getrlimit(RLIMIT_LOCKS, &limit))
+		return;
+	limit.rlim_cur = limit.rlim_max;
+	setrlimit(RLIMIT_LOCKS, &limit);
+}
+
 /* Becomes the program, or reports an error. */
 static void become_program(const struct run *run, int socket, bool needs_filter)
 {
-	char **program = run->options.program;
+	char **program = run->nodes->options.program;
 
 	install_filter(socket, needs_filter);
 	drop_sys_time();
 	signals_restore();
-	if (!setenv("TKRUN", run->folder, 1))
+	leave_nodes(run);
+	if (!setenv("TKRUN", run->nodes->folder, 1))
 		execvp(*program, program);
 	send_report(socket, errno, -1);
 	_exit(STATUS_NOT_FOUND);
@@ -158,12 +171,23 @@ static void stop_child(const struct run *run)
 	waitpid(run->child, NULL, __WALL);
 }
 
+/* Opens the files of all clocks. */
+static bool open_files(struct run *run)
+{
+	bool is_open = true;
+
+	for (size_t i = 0; i < run->count; i++) {
+		run->nodes[i].machine.shared->has_filter = true;
+		is_open = is_open && files_open(i, run->nodes[i].folder);
+	}
+	return is_open;
+}
+
 /* Starts the threads that answer the calls. */
 static void answer_calls(struct run *run)
 {
-	image_offer(&run->machine);
-	run->machine.shared->has_filter = true;
-	run->execs = files_open(run->folder) ? execs_open() : -1;
+	image_offer(&run->nodes->machine);
+	run->execs = open_files(run) ? execs_open() : -1;
 	if (run->execs >= 0 && sleepers_start(run->listener) &&
 	    answers_start(run->listener))
 		return;
@@ -177,7 +201,7 @@ static void miss_filter(struct run *run, bool is_static, int error)
 {
 	char reason[128];
 
-	if (run->options.is_static) {
+	if (run->nodes->options.is_static) {
 		stop_child(run);
 		fail(STATUS_FAILED,
 		     "--static: the kernel lets no filter ask tkrun: %s",
@@ -187,8 +211,8 @@ static void miss_filter(struct run *run, bool is_static, int error)
 		 "it is static, and the kernel lets no filter ask tkrun: %s",
 		 strerror(error));
 	if (is_static)
-		uncovered_note(*run->options.program, run->child, reason);
-	else if (!run->options.is_quiet)
+		uncovered_note(*run->nodes->options.program, run->child, reason);
+	else if (!run->nodes->options.is_quiet)
 		fprintf(stderr,
 			"tkrun: the kernel lets no filter ask tkrun: %s: a program without "
 			"the library is found only if it runs for 0.2 s\n",
@@ -219,15 +243,15 @@ static void check_start(struct run *run, int error)
 		fail(run->child < 0    ? STATUS_FAILED
 		     : error == ENOENT ? STATUS_NOT_FOUND
 				       : STATUS_NOT_RUN,
-		     "cannot run '%s': %s", *run->options.program,
+		     "cannot run '%s': %s", *run->nodes->options.program,
 		     strerror(error));
 }
 
 void start_program(struct run *run)
 {
-	bool is_static = is_static_program(*run->options.program);
-	bool needs_filter = run->options.is_static ||
-			    (is_static && !run->options.is_lax);
+	bool is_static = is_static_program(*run->nodes->options.program);
+	bool needs_filter = run->nodes->options.is_static ||
+			    (is_static && !run->nodes->options.is_lax);
 	int ends[2], error = 0;
 
 	run->listener = run->execs = -1;

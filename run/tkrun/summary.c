@@ -9,7 +9,7 @@
 #include <string.h>
 
 /* Warns of waits that the clocks have no part in. */
-static void print_host_waits(const struct control *control)
+static void print_host_waits(uint32_t waits)
 {
 	static const char *const WAITS[HOST_WAITS] = {
 		[HOST_UNLISTED] =
@@ -28,38 +28,53 @@ static void print_host_waits(const struct control *control)
 	};
 
 	for (int i = 0; i < HOST_WAITS; i++) {
-		if (control->host_waits & 1U << i)
+		if (waits & 1U << i)
 			fprintf(stderr, "tkrun: %s\n", WAITS[i]);
 	}
 }
 
-void print_summary(const struct run *run)
+static void print_node(const struct node *node)
 {
-	const struct control *control = run->machine.control;
-	uint64_t nanos = host_nanos(CLOCK_MONOTONIC) - run->started;
+	const struct control *control = node->machine.control;
 
 	fprintf(stderr,
-		"tkrun: %.3f s of the host; commands: %" PRIu64
-		" accepted, %" PRIu64 " refused; at least %" PRIu64
-		" reads; programs: %" PRIu32 " attached\n",
-		(double)nanos / 1e9, control->accepted, control->refused,
-		control->reads, control->attached);
+		"commands: %" PRIu64 " accepted, %" PRIu64
+		" refused; at least %" PRIu64 " reads; programs: %" PRIu32
+		" attached\n",
+		control->accepted, control->refused, control->reads,
+		control->attached);
 	if (control->recovered)
 		fprintf(stderr,
-			"tkrun: took over %" PRIu64
+			"tkrun: %stook over %" PRIu64
 			" times from a process that died amid a command\n",
-			control->recovered);
+			node_prefix(node), control->recovered);
+}
+
+void print_summary(const struct run *run)
+{
+	uint64_t nanos = host_nanos(CLOCK_MONOTONIC) - run->started;
+
+	fprintf(stderr, "tkrun: %.3f s of the host; ", (double)nanos / 1e9);
+	print_node(run->nodes);
+	for (size_t i = 1; i < run->count; i++) {
+		fprintf(stderr, "tkrun: %s", node_prefix(&run->nodes[i]));
+		print_node(&run->nodes[i]);
+	}
 }
 
 void print_faults(const struct run *run)
 {
+	uint32_t waits = 0;
+
+	for (size_t i = 0; i < run->count; i++)
+		waits |= run->nodes[i].machine.control->host_waits;
 	uncovered_print_rest();
-	print_host_waits(run->machine.control);
+	print_host_waits(waits);
 }
 
-void print_log(const struct run *run)
+void print_log(const struct node *node)
 {
-	const struct log *log = &run->machine.control->log;
+	const struct log *log = &node->machine.control->log;
 
 	if (!log->lost)
 		return;
@@ -70,36 +85,37 @@ void print_log(const struct run *run)
 		log->lost == 1 ? "line isn't" : "lines aren't");
 }
 
-void print_record(const struct run *run, bool is_written)
+void print_record(const struct node *node, bool is_written)
 {
-	const struct recording *recording = &run->recording;
-	const struct rows *rows = &run->machine.control->rows;
+	const struct recording *recording = &node->recording;
+	const struct rows *rows = &node->machine.control->rows;
+	const char *name = node_prefix(node);
 
-	if (!run->options.is_quiet && is_written)
+	if (!node->options.is_quiet && is_written)
 		fprintf(stderr,
-			"tkrun: recorded %" PRIu64 " reads and %" PRIu64
+			"tkrun: %srecorded %" PRIu64 " reads and %" PRIu64
 			" commands, in %u %s\n",
-			recording->reads, recording->commands,
+			name, recording->reads, recording->commands,
 			recording->part_count,
 			recording->part_count == 1 ? "script" : "scripts");
 	if (rows->reads > rows->reads_most)
 		fprintf(stderr,
-			"tkrun: the record has the first %" PRIu64
+			"tkrun: %sthe record has the first %" PRIu64
 			" reads, and not the %" PRIu64
 			" after them: --reads changes that\n",
-			rows->reads_most, rows->reads - rows->reads_most);
+			name, rows->reads_most, rows->reads - rows->reads_most);
 	if (recording->error)
 		fprintf(stderr,
-			"tkrun: the record ends before row %" PRIu64 ": %s\n",
-			recording->missing, strerror(recording->error));
+			"tkrun: %sthe record ends before row %" PRIu64 ": %s\n",
+			name, recording->missing, strerror(recording->error));
 	if (recording->gap)
 		fprintf(stderr,
-			"tkrun: the record ends before command %" PRIu64
+			"tkrun: %sthe record ends before command %" PRIu64
 			", which couldn't be recorded\n",
-			recording->gap);
+			name, recording->gap);
 	if (rows->lost)
 		fprintf(stderr,
-			"tkrun: %" PRIu64
+			"tkrun: %s%" PRIu64
 			" reads or commands aren't in the record\n",
-			rows->lost);
+			name, rows->lost);
 }

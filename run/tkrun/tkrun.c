@@ -26,30 +26,43 @@ enum {
 	NAP_NANOS = 50000,	 /* between two checks of waiting threads */
 };
 
-/* Brings the clocks forward. Returns the host's ns until the next time. */
-static uint64_t step_clocks(struct run *run)
+/* Brings the clocks of a node forward, whose counter runs. Returns the host's ns until the next
+ * time. */
+static uint64_t step_node(struct node *node)
 {
 	static const struct order update = { .command = TKC_CMD_UPDATE };
-	struct machine *machine = &run->machine;
+	struct machine *machine = &node->machine;
 	const struct shared_page *shared = machine->shared;
 	sigset_t saved;
 	double order;
 
-	if (shared->kind == COUNTER_SLEEPS) {
+	machine_lock(machine, &saved);
+	plan_run(&node->plan, machine);
+	if (!machine_is_asleep(machine))
+		machine_apply(machine, &update, 1);
+	machine_unlock(machine, &saved);
+	wake_changed(node);
+	order = (double)plan_left(&node->plan, machine) *
+		shared->nanos_per_cycle;
+	return order < (double)shared->update_nanos ? (uint64_t)order
+						    : shared->update_nanos;
+}
+
+/* Brings all clocks forward. Returns the host's ns until the next time. */
+static uint64_t step_clocks(struct run *run)
+{
+	uint64_t least = NEVER, left;
+
+	if (run->nodes->machine.shared->kind == COUNTER_SLEEPS) {
 		if (move_counter(run))
 			sleepers_wake();
 		return NAP_NANOS;
 	}
-	machine_lock(machine, &saved);
-	plan_run(&run->plan, machine);
-	if (!machine_is_asleep(machine))
-		machine_apply(machine, &update, 1);
-	machine_unlock(machine, &saved);
-	wake_changed(run);
-	order = (double)plan_left(&run->plan, machine) *
-		shared->nanos_per_cycle;
-	return order < (double)shared->update_nanos ? (uint64_t)order
-						    : shared->update_nanos;
+	for (size_t i = 0; i < run->count; i++) {
+		left = step_node(&run->nodes[i]);
+		least = left < least ? left : least;
+	}
+	return least;
 }
 
 static void check_now_and_then(struct run *run)
@@ -105,101 +118,6 @@ static void drive(struct run *run, const sigset_t *signals)
 	}
 }
 
-static bool is_complete(const struct run *run)
-{
-	return !run->recording.error && !run->recording.gap &&
-	       !run->machine.control->rows.lost;
-}
-
-/* Compares the record, if it was written. The status says if a signal has ended
- * that, or a value differs, or else if not all values could be compared. */
-static void check_record(struct run *run, bool is_written)
-{
-	const struct recording *recording = &run->recording;
-	uint64_t differ = is_written ? recording_check(recording) : 0;
-	uint64_t all = recording->reads + recording->commands;
-
-	if (signals_passed()) {
-		fprintf(stderr, "tkrun: check: ended by a signal: %s\n",
-			strsignal(signals_passed()));
-		run->status = 128 + signals_passed();
-	} else if (differ == NOT_RUN) {
-		run->status = STATUS_UNCHECKED;
-	} else if (differ) {
-		fprintf(stderr,
-			"tkrun: check: %" PRIu64
-			" lines differ from tkcore's\n",
-			differ);
-		run->status = STATUS_DIFFERS;
-	} else if (!is_written) {
-		fprintf(stderr, "tkrun: check: there is no record\n");
-		run->status = STATUS_UNCHECKED;
-	} else if (!is_complete(run)) {
-		fprintf(stderr,
-			"tkrun: check: tkcore gives each of the first %" PRIu64
-			" values; the others aren't in the record\n",
-			all);
-		run->status = STATUS_UNCHECKED;
-	} else if (!run->options.is_quiet) {
-		fprintf(stderr,
-			"tkrun: check: tkcore gives each of the %" PRIu64
-			" values\n",
-			all);
-	}
-}
-
-/* Removes the parts of a record that only --check needed. */
-static void remove_scratch(const struct run *run)
-{
-	char name[PATH_MAX];
-
-	if (!*run->scratch)
-		return;
-	for (unsigned int part = 1; part <= run->recording.part_count; part++) {
-		recording_part(&run->recording, part, name, sizeof(name));
-		unlink(name);
-	}
-}
-
-/* Starts the record, if --record or --check asks for it. */
-static void start_record(struct run *run)
-{
-	const char *temporary = getenv("TMPDIR");
-	static char path[PATH_MAX + 8];
-
-	run->recording.path = run->options.record;
-	if (!run->options.record) {
-		snprintf(run->scratch, sizeof(run->scratch), "%s/tkrun.XXXXXX",
-			 temporary ? temporary : "/tmp");
-		if (!mkdtemp(run->scratch))
-			fail(STATUS_FAILED, "--check: cannot make '%s': %s",
-			     run->scratch, strerror(errno));
-		snprintf(path, sizeof(path), "%s/record", run->scratch);
-		run->recording.path = path;
-	}
-	recording_start(&run->recording, run->machine.control, &run->options);
-	if (run->plan.is_steered)
-		rows_steer(&run->machine.control->rows);
-}
-
-static void end_run(struct run *run, bool is_recorded)
-{
-	bool is_written;
-
-	if (!run->options.is_quiet)
-		print_summary(run);
-	print_faults(run);
-	print_log(run);
-	if (is_recorded) {
-		is_written = recording_write(&run->recording, &run->machine,
-					     &run->plan);
-		print_record(run, is_written);
-		if (run->options.is_checked)
-			check_record(run, is_written);
-		remove_scratch(run);
-	}
-}
-
 /* Empties the log, and makes its name absolute: a program may change its
  * folder. */
 static void start_log(struct options *options)
@@ -216,13 +134,13 @@ static void start_log(struct options *options)
 
 /* Applies the script's orders at the opening's reading, so that the program
  * finds them done. */
-static void run_first_orders(struct run *run)
+static void run_first_orders(struct node *node)
 {
 	sigset_t saved;
 
-	machine_lock(&run->machine, &saved);
-	plan_run(&run->plan, &run->machine);
-	machine_unlock(&run->machine, &saved);
+	machine_lock(&node->machine, &saved);
+	plan_run(&node->plan, &node->machine);
+	machine_unlock(&node->machine, &saved);
 }
 
 /* Lets no file of tkrun get the number of a standard one that was closed: messages
@@ -238,54 +156,69 @@ static void hold_standard_files(void)
 		close(file);
 }
 
-static struct run run;
-
-struct machine *machine(void)
-{
-	return &run.machine;
-}
-
 static void remove_all(void)
 {
-	remove_files(&run);
+	for (size_t i = the_run.count; i-- > 0;)
+		remove_files(&the_run.nodes[i]);
+}
+
+/* Makes the clocks of all nodes, with their records and logs. */
+static void open_all(struct run *run)
+{
+	const struct options *options = &run->nodes->options;
+
+	open_machines(run);
+	coverage_start(run->nodes->folder);
+	for (size_t i = 0; options->log && i < run->count; i++)
+		strcpy(run->nodes[i].machine.control->log.path, options->log);
+	if (options->record || options->is_checked)
+		start_records(run);
+	for (size_t i = 0; i < run->count; i++)
+		run_first_orders(&run->nodes[i]);
+}
+
+static void print_end(const struct run *run)
+{
+	if (!run->nodes->options.is_quiet)
+		print_summary(run);
+	print_faults(run);
+	for (size_t i = 0; i < run->count; i++)
+		print_log(&run->nodes[i]);
 }
 
 int main(int count, char **words)
 {
+	struct run *run = &the_run;
+	struct options *options = &run->nodes->options;
 	sigset_t signals;
-	bool is_recorded;
 
+	enter_node(count, words);
 	hold_standard_files();
-	parse_options(count, words, &run.options);
-	is_recorded = run.options.record || run.options.is_checked;
-	if (run.options.is_lax)
+	parse_options(count, words, options);
+	if (options->is_lax)
 		uncovered_allow();
-	find_host_clock(&run);
+	find_host_clock(run);
 	preload_library();
-	if (run.options.is_checked)
+	if (options->is_checked)
 		find_tkcore();
-	if (run.options.log)
-		start_log(&run.options);
+	if (options->log)
+		start_log(options);
 	signals_block(&signals);
 	atexit(remove_all);
-	open_machine(&run);
-	coverage_start(run.folder);
-	if (run.options.log)
-		strcpy(run.machine.control->log.path, run.options.log);
-	if (is_recorded)
-		start_record(&run);
-	run_first_orders(&run);
+	open_all(run);
 	prctl(PR_SET_CHILD_SUBREAPER, 1, 0, 0, 0);
 	signals_end_early();
-	run.started = host_nanos(CLOCK_MONOTONIC);
-	start_program(&run);
+	run->started = host_nanos(CLOCK_MONOTONIC);
+	start_program(run);
 	signals_ignore();
-	watch_lock(&run);
+	watch_locks(run);
 	ending_watch();
-	drive(&run, &signals);
+	drive(run, &signals);
 	ending_watch_no_more();
-	end_run(&run, is_recorded);
-	if (uncovered_is_over() && run.status != STATUS_DIFFERS)
+	print_end(run);
+	if (options->record || options->is_checked)
+		end_records(run);
+	if (uncovered_is_over() && run->status != STATUS_DIFFERS)
 		return STATUS_UNCOVERED;
-	return run.status;
+	return run->status;
 }

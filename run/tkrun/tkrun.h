@@ -1,8 +1,9 @@
 /* SPDX-License-Identifier: MIT OR Apache-2.0 */
-/* tkrun.h - a run of a program. */
+/* tkrun.h - a run of a program, on the clocks of one or more nodes. */
 #ifndef TKRUN_H
 #define TKRUN_H
 
+#include "pace.h"
 #include "signals.h"
 #include "processes/tree.h"
 #include "record/recording.h"
@@ -10,14 +11,27 @@
 
 #include <limits.h>
 
-struct run {
+/* One set of clocks, with its record. */
+struct node {
 	struct options options;
 	struct plan plan;
 	struct machine machine;
 	struct recording recording;
-	struct tree tree;
+	struct pace pace;
+	struct tree *tree; /* of the run */
+	struct idle *idles; /* by the place of a waiter */
 	char folder[PATH_MAX - 64];
 	char scratch[PATH_MAX]; /* the folder of a record that isn't kept */
+	uint64_t next_look;	/* the host's ns at which its waits are looked at again */
+	uint32_t changes;	/* of its clocks, when they were looked at */
+};
+
+/* The first node has the clocks of the program. The others are those of --node. */
+struct run {
+	struct node nodes[1 + NODES_MOST];
+	size_t count;
+	struct tree tree;
+	uint64_t elapsed; /* the common counter of sleeps: ns, or cycles if there is one node */
 	uint64_t started, checked; /* the host's ns: the run, and its processes' clocks */
 	pid_t child; /* the program, or 0 when it has ended */
 	int status;
@@ -26,15 +40,37 @@ struct run {
 	bool calls_host; /* the vDSO can't read the host's clocks */
 };
 
+/* The run of this tkrun. */
+extern struct run the_run;
+
 /* Finds out how the host's clocks are read. A tkrun inside another one with a
  * filter must not read the clocks outside. */
 void find_host_clock(struct run *run);
 
-/* Makes the clocks of the options. Ends tkrun if it can't. */
-void open_machine(struct run *run);
+/* Makes the clocks of all nodes. Ends tkrun if it can't. */
+void open_machines(struct run *run);
 
-/* Removes the files that were made for the run, however it ends. */
-void remove_files(const struct run *run);
+/* Removes the files that were made for a node, however the run ends. */
+void remove_files(const struct node *node);
+
+/* Returns a node's name with a colon and a space for a message, or nothing for the first node. */
+const char *node_prefix(const struct node *node);
+
+/* Starts the records of all nodes. */
+void start_records(struct run *run);
+
+/* Writes the records, and compares them if --check is there, which may change the status of the
+ * run. */
+void end_records(struct run *run);
+
+/* Writes where the nodes' readings are on the common counter, when that changes. */
+void start_paces(struct run *run);
+void note_pace(const struct node *node);
+void end_paces(void);
+
+/* `tkrun node NAME -- PROGRAM`: executes a program on a node of the run that has started tkrun.
+ * Returns if these aren't its arguments. */
+void enter_node(int count, char **words);
 
 /* Finds the library, and puts it in front of LD_PRELOAD. Ends tkrun if it can't
  * be preloaded. */
@@ -50,12 +86,12 @@ void serve_execs(struct run *run);
  * or to the next order. Returns whether it moved. */
 bool move_counter(struct run *run);
 
-/* Ends the waits whose time a command has brought, on a counter that runs. */
-void wake_changed(struct run *run);
+/* Ends the waits on a node whose time a command has brought, on a counter that runs. */
+void wake_changed(struct node *node);
 
-/* Starts the thread that names a process if it is stopped while it has the lock of the
+/* Starts the thread that names a process if it is stopped while it has the lock of some
  * clocks. */
-void watch_lock(struct run *run);
+void watch_locks(struct run *run);
 
 /* The first starts a thread that ends all processes when SIGTERM or SIGINT comes: it passes the
  * signal on, and kills them after a second, or when the next one comes. The other ends it. */
@@ -65,11 +101,11 @@ void ending_watch_no_more(void);
 /* Returns whether processes go on that can't be killed. */
 bool ending_is_over(void);
 
-/* Print what became of the run, which times were the host's, and what became of its log and of
- * its record. */
+/* Print what became of the run and of its nodes, which times were the host's, and what became of a
+ * node's log and of its record. */
 void print_summary(const struct run *run);
 void print_faults(const struct run *run);
-void print_log(const struct run *run);
-void print_record(const struct run *run, bool is_written);
+void print_log(const struct node *node);
+void print_record(const struct node *node, bool is_written);
 
 #endif

@@ -48,27 +48,42 @@ static void name_owner(int32_t thread)
 		name, (int)status_number(status, "Tgid", 10));
 }
 
-static void *watch(void *argument)
+/* What was found of a node's lock. */
+struct watched {
+	int32_t owner;
+	unsigned int checks;
+};
+
+static void watch(struct watched *watched, const struct control *control)
 {
-	const struct control *control = argument;
-	int32_t owner = 0, now;
-	unsigned int checks = 0;
+	int32_t now = find_owner(control);
+
+	if (!is_stopped(now))
+		watched->checks = 0;
+	else
+		watched->checks = (now == watched->owner ? watched->checks : 0) + 1;
+	watched->owner = now;
+	if (watched->checks == CHECKS)
+		name_owner(now);
+}
+
+static void *watch_all(void *argument)
+{
+	static struct watched watched[1 + NODES_MOST];
+	const struct run *run = argument;
 
 	for (;;) {
 		host_nap(CHECK_NANOS);
-		now = find_owner(control);
-		checks = is_stopped(now) ? (now == owner ? checks : 0) + 1 : 0;
-		owner = now;
-		if (checks == CHECKS)
-			name_owner(owner);
+		for (size_t i = 0; i < run->count; i++)
+			watch(&watched[i], run->nodes[i].machine.control);
 	}
 	return NULL;
 }
 
-void watch_lock(struct run *run)
+void watch_locks(struct run *run)
 {
 	pthread_t thread;
 
-	if (pthread_create(&thread, NULL, watch, run->machine.control))
+	if (pthread_create(&thread, NULL, watch_all, run))
 		fail(STATUS_FAILED, "cannot start a thread");
 }

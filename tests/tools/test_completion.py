@@ -65,7 +65,7 @@ class Completion(Case):
 
     def test_zsh_names_each_option_of_tkrun(self):
         text = (FOLDER / "_tkrun").read_text(encoding="utf-8")
-        self.assertEqual(options(), sorted(re.findall(r"^    '(--[a-z-]+)\[", text, flags=re.M)))
+        self.assertEqual(options(), sorted(re.findall(r"^    '\*?(--[a-z-]+)\[", text, flags=re.M)))
 
     @unittest.skipUnless(shutil.which("zsh"), "there is no zsh")
     def test_zsh_completes_the_only_match(self):

@@ -1,0 +1,106 @@
+/* SPDX-License-Identifier: MIT OR Apache-2.0 */
+/* node_options.c - parses --node NAME[,OPTION=VALUE].. */
+#define _GNU_SOURCE
+#include "options.h"
+
+#include <ctype.h>
+#include <stdio.h>
+#include <stdlib.h>
+#include <string.h>
+
+/* A record R has the file R.rows while the program runs, and R.nodes next to those of the nodes. */
+static const char *const RESERVED[] = { "rows", "nodes" };
+
+static const char *const OPTIONS[] = { "error-ppm", "start", "ahead", "uptime", "script",
+				       "hz",	    "bits",  "maxsec" };
+
+bool is_node_name(const char *text)
+{
+	size_t length = strspn(text, "abcdefghijklmnopqrstuvwxyzABCDEFGHIJKLMNOPQRSTUVWXYZ"
+				     "0123456789_-");
+
+	for (size_t i = 0; i < sizeof(RESERVED) / sizeof(*RESERVED); i++) {
+		if (!strcmp(text, RESERVED[i]))
+			return false;
+	}
+	return !text[length] && length <= NODE_NAME_MOST && isalpha((unsigned char)*text);
+}
+
+void add_node(struct options *options, const char *words)
+{
+	if (options->node_count == NODES_MOST)
+		fail(STATUS_WRONG, "--node: there are more than %d", NODES_MOST);
+	options->node_words[options->node_count++] = words;
+}
+
+/* Parses "OPTION=VALUE". */
+static void parse_word(struct options *node, char *word)
+{
+	char *value = strchr(word, '=');
+	bool is_known = false;
+
+	if (value)
+		*value++ = 0;
+	for (size_t i = 0; i < sizeof(OPTIONS) / sizeof(*OPTIONS); i++)
+		is_known |= !strcmp(word, OPTIONS[i]);
+	if (!is_known || !value)
+		fail(STATUS_WRONG, is_known ? "'%s' has no value" : "'%s' is no option of a node",
+		     word);
+	parse_option(node, word, value);
+}
+
+static char *copy_of(const char *text, const char *ending)
+{
+	char *copy = NULL;
+
+	if (asprintf(&copy, "%s%s%s", text, *ending ? "." : "", ending) < 0)
+		fail(STATUS_FAILED, "out of memory");
+	return copy;
+}
+
+/* Returns the options of all nodes, without those of which each node has its own. */
+static struct options common_options(const struct options *all)
+{
+	struct options node = *all;
+
+	node.node_count = 0;
+	node.has_start = node.has_ahead = node.has_uptime = false;
+	node.ahead = 0;
+	node.script = NULL;
+	return node;
+}
+
+/* Clocks that a script opens have its uptime. */
+static void parse_node(const struct options *all, const char *words, struct options *node)
+{
+	char *rest = copy_of(words, ""), *word = strsep(&rest, ",");
+
+	*node = common_options(all);
+	if (!is_node_name(word))
+		fail(STATUS_WRONG,
+		     "--node: '%s' isn't a name: a letter, and up to %d letters, digits, - and _",
+		     word, NODE_NAME_MOST - 1);
+	node->name = word;
+	fail_within(node->name);
+	while ((word = strsep(&rest, ",")))
+		parse_word(node, word);
+	if (all->record)
+		node->record = copy_of(all->record, node->name);
+	compare_options(node);
+	node->has_uptime |= all->has_uptime && !node->script;
+}
+
+void parse_nodes(struct options *options)
+{
+	options->nodes = calloc(options->node_count + 1, sizeof(*options));
+	if (!options->nodes)
+		fail(STATUS_FAILED, "out of memory");
+	for (size_t i = 0; i < options->node_count; i++) {
+		parse_node(options, options->node_words[i], &options->nodes[i]);
+		for (size_t j = 0; j < i; j++) {
+			if (!strcmp(options->nodes[i].name, options->nodes[j].name))
+				fail(STATUS_WRONG, "two nodes have this name");
+		}
+		fail_within(NULL);
+	}
+}
