@@ -10,9 +10,8 @@
 #include <sys/resource.h>
 #include <unistd.h>
 
-/* Returns the folder of the run that has started this process, or NULL. Its clocks may be those of
- * a node. */
-static const char *find_run(void)
+/* The clocks of this process may be those of a node. */
+const char *find_run(void)
 {
 	const char *folder = getenv("TKRUN"), *last = folder ? strrchr(folder, '/') : NULL;
 

@@ -130,6 +130,8 @@ void remove_files(const struct node *node)
 	unlink(path);
 	snprintf(path, sizeof(path), "%s/control", node->folder);
 	unlink(path);
+	snprintf(path, sizeof(path), "%s/ctl", node->folder);
+	unlink(path);
 	rmdir(node->folder);
 	if (*node->recording.rows_path)
 		unlink(node->recording.rows_path);

@@ -3,17 +3,8 @@
 #define _GNU_SOURCE
 #include "idle.h"
 
-#include "processes/status.h"
-
 #include <stdlib.h>
 #include <sys/syscall.h>
-
-enum {
-	/* a slice that ends at its time isn't ended by the signal */
-	SLICE_SLACK = 1000000,
-	/* between two checks of waits: a discipline may change the rate at each second */
-	CHECK_NANOS = 100000000,
-};
 
 /* Returns the cycles until a waiter's time, or 0 if its thread is about to wait, or
  * the entry isn't this owner's any more. */
@@ -99,57 +90,6 @@ static void wake_reached(struct node *node)
 	}
 }
 
-/* Wakes a thread whose time has come, or frees its entry if it is gone. Returns the
- * host's time at which to look at it again. */
-static uint64_t wake_late(struct node *node, uint32_t index, uint64_t owner,
-			  uint64_t now)
-{
-	struct waiter *waiter = &node->machine.control->waiters[index];
-	struct idle *idle = idle_of(node, index, owner);
-	char status[STATUS_BYTES];
-
-	if (now >= idle->next && !status_read(owner_thread(owner), status)) {
-		waiter_free(waiter, owner);
-		return NEVER;
-	}
-	idle_wake_again(node, waiter, idle, now);
-	return idle->next;
-}
-
-/* Wakes a thread if its time has come before its slice ends. Returns the host's time at
- * which to look at it again. */
-static uint64_t wake_if_due(struct node *node, uint32_t index, uint64_t now)
-{
-	struct waiter *waiter = &node->machine.control->waiters[index];
-	uint64_t owner = atomic_load(&waiter->owner), left;
-
-	if (owner_thread(owner) <= 0)
-		return NEVER;
-	left = machine_left(&node->machine, waiter->clock, waiter->sec,
-			    waiter->nsec);
-	if (left == NEVER || atomic_load(&waiter->owner) != owner ||
-	    atomic_load(&waiter->slice_end) < now + left + SLICE_SLACK)
-		return NEVER;
-	return left ? now + left : wake_late(node, index, owner, now);
-}
-
-void wake_changed(struct node *node)
-{
-	struct control *control = node->machine.control;
-	uint32_t changes = atomic_load(&node->machine.shared->generation),
-		 count = atomic_load(&control->waiters_count);
-	uint64_t now = host_nanos(CLOCK_MONOTONIC), due;
-
-	if (changes == node->changes && now < node->next_look)
-		return;
-	node->changes = changes;
-	node->next_look = now + CHECK_NANOS;
-	for (uint32_t i = 0; i < count; i++) {
-		due = wake_if_due(node, i, now);
-		node->next_look = due < node->next_look ? due : node->next_look;
-	}
-}
-
 /* Returns whether a thread's call is tkrun's to answer. A restarted one is the
  * host's unless it is a sleep that tkrun has stopped. */
 static bool is_asked(const struct thread_state *thread)
@@ -221,12 +161,12 @@ static uint64_t common_after(const struct node *node, uint64_t cycles)
 			   atomic_load(&node->machine.shared->cycles) + cycles);
 }
 
-/* Returns the common counter at the first of the threads' times and of the orders of all nodes.
- * Returns NEVER if there is none, or if a thread is about to wait for a time that has come. */
+/* Returns the common counter at the first of the threads' times, the orders and the events of all
+ * nodes. Returns NEVER if there is none, or if a thread is about to wait for a time that has come. */
 static uint64_t find_next(struct run *run)
 {
-	bool is_reached = false, is_due = false;
-	uint64_t least = NEVER;
+	bool is_reached = false, is_due = events_next() <= run->elapsed;
+	uint64_t least = events_next();
 
 	for (size_t i = 0; i < run->count; i++) {
 		struct node *node = &run->nodes[i];
@@ -280,12 +220,15 @@ bool move_counter(struct run *run)
 	uint64_t common;
 
 	run->tree.has_filter = run->listener >= 0;
-	common = all_wait(run) ? find_next(run) : NEVER;
+	if (!all_wait(run) || (run->count > 1 && control_serve(run)))
+		return false;
+	common = find_next(run);
 	if (common == NEVER)
 		return false;
 	run->elapsed = common;
 	for (size_t i = 0; i < run->count; i++)
 		move_node(&run->nodes[i], common);
+	act_all_due(run);
 	for (size_t i = 0; i < run->count; i++) {
 		wake_reached(&run->nodes[i]);
 		machine_wake(&run->nodes[i].machine);

@@ -17,6 +17,7 @@ enum { READS_MOST = 10000000 }; /* in a record: 26 scripts */
 static const char USAGE[] =
 	"usage: tkrun [OPTIONS] -- PROGRAM ARGS..\n"
 	"       tkrun node NAME -- PROGRAM ARGS..\n"
+	"       tkrun ctl NODE step|freq|suspend|leap [VALUE]\n"
 	"  --counter raw|tsc|sleeps  the counter (raw)\n"
 	"  --hz N, --bits N, --maxsec N\n"
 	"                            its description (1000000000 or the TSC's, 64, 1)\n"
@@ -37,6 +38,7 @@ static const char USAGE[] =
 	"  --node NAME[,OPTION=VALUE]..\n"
 	"                            a machine with its own clocks, any number: `tkrun node` runs\n"
 	"                            programs there\n"
+	"  --plan FILE               what happens to nodes: lines `at SEC NODE COMMAND [VALUE]`\n"
 	"  --lax                     a program on the host's clocks doesn't end the run\n"
 	"  --static                  starts nothing if tkrun can't answer system calls\n"
 	"  --quiet                   prints no summary\n";
@@ -91,8 +93,7 @@ static double decimal(const char *option, const char *text, double least,
 	return value;
 }
 
-/* Parses ".NSEC", of one to nine digits, or nothing. Returns what follows. */
-static const char *parse_nsec(const char *text, uint32_t *nsec)
+const char *parse_nsec(const char *text, uint32_t *nsec)
 {
 	uint32_t digit = NANOS;
 
@@ -195,6 +196,8 @@ void parse_option(struct options *o, const char *name, const char *value)
 		o->reads_most = whole(name, value, 0, INT64_MAX);
 	else if (!strcmp(name, "log"))
 		o->log = value;
+	else if (!strcmp(name, "plan"))
+		o->plan = value;
 	else if (!strcmp(name, "node"))
 		add_node(o, value);
 	else
@@ -233,6 +236,8 @@ void compare_options(const struct options *o)
 	if ((o->every != 1 || o->limits_reads) && !o->record && !o->is_checked)
 		fail(STATUS_WRONG, "--%s needs --record or --check",
 		     o->limits_reads ? "reads" : "every");
+	if (o->plan && !o->node_count && !o->name)
+		fail(STATUS_WRONG, "--plan needs --node");
 	if (o->counter == COUNTER_SLEEPS && !o->name &&
 	    (o->speed != 1 || o->error_ppm != 0))
 		fail(STATUS_WRONG,
@@ -252,7 +257,7 @@ void parse_options(int count, char **words, struct options *options)
 		{ "stamps", 0, 0, 0 },	  { "log", 1, 0, 0 },
 		{ "static", 0, 0, 0 },	  { "quiet", 0, 0, 0 },
 		{ "lax", 0, 0, 0 },	  { "node", 1, 0, 0 },
-		{ "help", 0, 0, 'h' },
+		{ "plan", 1, 0, 0 },	  { "help", 0, 0, 'h' },
 		{ "version", 0, 0, 'v' }, { "reads", 1, 0, 0 },
 		{ 0, 0, 0, 0 },
 	};

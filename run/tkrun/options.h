@@ -37,7 +37,7 @@ struct options {
 	double ahead; /* s */
 	int64_t uptime_sec;
 	uint32_t uptime_nsec;
-	const char *script, *record, *log;
+	const char *script, *record, *log, *plan;
 	uint64_t every;
 	uint64_t reads_most; /* in a record */
 	bool limits_reads;   /* --reads is there */
@@ -52,6 +52,9 @@ struct options {
 /* Parses the arguments. At a wrong one, ends tkrun with a sentence and
  * STATUS_WRONG. */
 void parse_options(int count, char **words, struct options *options);
+
+/* Parses ".NSEC", of one to nine digits, or nothing. Returns what follows. */
+const char *parse_nsec(const char *text, uint32_t *nsec);
 
 /* Parses the value of an option with this name. */
 void parse_option(struct options *options, const char *name, const char *value);

@@ -48,6 +48,17 @@ static uint64_t step_node(struct node *node)
 						    : shared->update_nanos;
 }
 
+/* Returns the host's ns until the next event, or NEVER. */
+static uint64_t nanos_to_event(const struct run *run)
+{
+	uint64_t next = events_next(), now;
+
+	if (next == NEVER)
+		return NEVER;
+	now = true_nanos(run);
+	return next < now ? 0 : (uint64_t)((double)(next - now) / run->nodes->machine.shared->speed);
+}
+
 /* Brings all clocks forward. Returns the host's ns until the next time. */
 static uint64_t step_clocks(struct run *run)
 {
@@ -62,7 +73,11 @@ static uint64_t step_clocks(struct run *run)
 		left = step_node(&run->nodes[i]);
 		least = left < least ? left : least;
 	}
-	return least;
+	while (run->count > 1 && control_serve(run))
+		;
+	act_all_due(run);
+	left = nanos_to_event(run);
+	return left < least ? left : least;
 }
 
 static void check_now_and_then(struct run *run)
@@ -175,6 +190,9 @@ static void open_all(struct run *run)
 		start_records(run);
 	for (size_t i = 0; i < run->count; i++)
 		run_first_orders(&run->nodes[i]);
+	if (run->count > 1)
+		control_open(run);
+	act_all_due(run);
 }
 
 static void print_end(const struct run *run)
@@ -193,8 +211,10 @@ int main(int count, char **words)
 	sigset_t signals;
 
 	enter_node(count, words);
+	control_node(count, words);
 	hold_standard_files();
 	parse_options(count, words, options);
+	read_plan(options);
 	if (options->is_lax)
 		uncovered_allow();
 	find_host_clock(run);

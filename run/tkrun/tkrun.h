@@ -3,6 +3,7 @@
 #ifndef TKRUN_H
 #define TKRUN_H
 
+#include "events.h"
 #include "pace.h"
 #include "signals.h"
 #include "processes/tree.h"
@@ -10,6 +11,7 @@
 #include "static/static.h"
 
 #include <limits.h>
+#include <sys/un.h>
 
 /* One set of clocks, with its record. */
 struct node {
@@ -67,6 +69,31 @@ void end_records(struct run *run);
 void start_paces(struct run *run);
 void note_pace(const struct node *node);
 void end_paces(void);
+
+/* Returns the true time of the run: that of the program's counter since the start, in ns. */
+uint64_t true_nanos(const struct run *run);
+
+/* Lets an event happen now. Returns the code of a refusal. */
+enum tkc_code act(struct run *run, const struct event *event);
+
+/* Lets the events happen whose time has come, and prints refusals. */
+void act_all_due(struct run *run);
+
+/* Opens the socket of `tkrun ctl`. The other answers a client. Returns whether there was one. */
+void control_open(const struct run *run);
+bool control_serve(struct run *run);
+
+/* Stores the address of this socket. Returns false if the folder's name is too long. */
+bool control_address(struct sockaddr_un *address, const char *folder);
+
+/* The most bytes of an event that a client sends. */
+enum { EVENT_MOST = 1024 };
+
+/* `tkrun ctl NODE COMMAND [VALUE]`: ends tkrun, unless these aren't its arguments. */
+void control_node(int count, char **words);
+
+/* Returns the folder of the run that has started this process, or NULL. */
+const char *find_run(void);
 
 /* `tkrun node NAME -- PROGRAM`: executes a program on a node of the run that has started tkrun.
  * Returns if these aren't its arguments. */
