@@ -65,8 +65,9 @@ class Nodes(RunTest):
 
     @unittest.skipUnless(CAN_FILTER, "the kernel lets no filter ask tkrun")
     def test_programs_without_the_library_have_the_clocks_of_their_node(self):
-        self.compare(program("static_nodes_clocks"))
-        self.compare("env -i $P")
+        for command in [program("static_nodes_clocks"), "env -i $P"]:
+            self.compare(command)
+            self.compare(command, "--check")  # its reads are system calls then
 
     @unittest.skipUnless(CAN_FILTER, "the kernel lets no filter ask tkrun")
     def test_a_daemon_stays_on_its_node(self):
@@ -110,6 +111,14 @@ class Nodes(RunTest):
         self.assertLessEqual(abs(int(lines[0].split()[0]) - real), 1)
         self.assertLessEqual(abs(int(lines[0].split()[1]) - mono), 1)
 
+    def test_a_script_of_the_program_commands_no_node(self):
+        # a node starts as the program's clocks do, and only these are set after 1 s
+        script = self.file("s", "openhz,64,1000000000,1,0,5,0\nset,1000000000,100,0\n")
+        now = 2 * SECOND + 1
+        self.assertEqual(self.run_on(*STILL, "--script", script, "--node", "a", "--check",
+                                     *self.script("sleep 2; $P; $T node a -- $P")),
+                         f"{99 * SECOND + now} {now}\n{5 * SECOND + now} {now}\n")
+
     def test_the_calls_that_steer_clocks_on_two_nodes(self):
         options = [*STILL, "--start", 1000000000, "--node", "a", "--node", "b"]
         steers = program("steers")
@@ -127,9 +136,9 @@ class Nodes(RunTest):
         path = self.file("node", "#!/bin/sh\necho \"$@\"\n")
         path.chmod(0o755)
         env = {"PATH": f"{self.folder}:{os.environ['PATH']}"}
-        for words in [["node", "x"], ["--", "node", "a", "--", "x"]]:
+        for words, out in [(["node", "x"], "x\n"), (["--", "node", "a", "--", "x"], "a -- x\n")]:
             run = self.start("--quiet", *words, env=env)
-            self.assertEqual((run.returncode, run.stdout), (0, f"{' '.join(words[words.index('node') + 1:])}\n"))
+            self.assertEqual((run.returncode, run.stdout), (0, out))
 
     def test_running_counters(self):
         # the node counts between the two reads of the program's clocks
@@ -139,6 +148,12 @@ class Nodes(RunTest):
                               "--check", *self.script(text))
             _, first, node, last = [int(line.split()[1]) for line in out.splitlines()]
             self.assertTrue(first * 3 // 2 - 2 <= node <= last * 3 // 2 + 2, out)
+
+    def test_running_counters_start_at_the_same_moment(self):
+        # the second number of struct shared_page in run/clocks/machine.h, in the file of each node
+        text = "for page in $TKRUN/page $TKRUN/node.a/page; do od -An -t u8 -j 8 -N 8 $page; done"
+        first, second = self.run_on("--node", "a", *self.script(text)).split()
+        self.assertEqual(first, second)
 
     def test_records_are_placed_on_the_common_counter(self):
         record = self.folder / "r"
