@@ -24,7 +24,7 @@ enum { SENTENCE_MOST = 256 };
  * if it is wrong. */
 bool event_parse(const struct options *options, char *text, struct event *event, char *sentence);
 
-/* Parses "SEC[.NSEC]" with an optional sign, up to about 292 years. Returns what follows, or NULL. */
+/* Parses "SEC[.NSEC]" with an optional sign, up to 9223372035 s. Returns what follows, or NULL. */
 const char *parse_seconds(const char *text, int64_t *sec, uint32_t *nsec);
 
 /* Reads the events of --plan. At a wrong line, ends tkrun with a sentence. */

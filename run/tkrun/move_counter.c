@@ -162,7 +162,7 @@ static uint64_t common_after(const struct node *node, uint64_t cycles)
 }
 
 /* Returns the common counter at the first of the threads' times, the orders and the events of all
- * nodes. Returns NEVER if there is none, or if a thread is about to wait for a time that has come. */
+ * nodes. Returns NEVER if there is none, or a thread is about to wait for a time that has come. */
 static uint64_t find_next(struct run *run)
 {
 	bool is_reached = false, is_due = events_next() <= run->elapsed;

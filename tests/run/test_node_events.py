@@ -19,7 +19,7 @@ def line(real, mono):
 
 class Events(RunTest):
     def script(self, text):
-        """A script that runs on the program's clocks. It knows tkrun as $T and nodes_clocks as $P."""
+        """A script on the program's clocks. It knows tkrun as $T and nodes_clocks as $P."""
         return ["--", "sh", "-c", f"cd {self.folder}; T={TKRUN} P={CLOCKS}; {text}"]
 
     def at_fifteen(self, *events):

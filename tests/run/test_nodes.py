@@ -1,5 +1,5 @@
-"""Nodes: machines with their own clocks over one common counter. Their times are computed here, from
-the common counter in ns and the factor by which a node's counter is faster."""
+"""Nodes: machines with their own clocks over one common counter. Their times are computed here,
+from the common counter in ns and the factor by which a node's counter is faster."""
 import os
 import re
 import select
@@ -42,7 +42,7 @@ def times(name, spans):
 
 class Nodes(RunTest):
     def script(self, text):
-        """A script that runs on the program's clocks. It knows tkrun as $T and nodes_clocks as $P."""
+        """A script on the program's clocks. It knows tkrun as $T and nodes_clocks as $P."""
         return ["--", "sh", "-c", f"cd {self.folder}; T={TKRUN} P={CLOCKS}; {text}"]
 
     def read(self, name):
@@ -78,7 +78,8 @@ class Nodes(RunTest):
         self.assertEqual(self.read("made"), times("fast", [SECOND]))
 
     def test_a_program_may_go_from_one_node_to_another(self):
-        text = "$T node fast -- $T node slow -- $P; $T node slow -- sh -c '$0 node fast -- $1' $T $P"
+        text = ("$T node fast -- $T node slow -- $P; "
+                "$T node slow -- sh -c '$0 node fast -- $1' $T $P")
         self.assertEqual(self.run_on(*OPTIONS, *self.script(text)),
                          times("slow", []) + times("fast", []))
 
@@ -244,7 +245,8 @@ class Faults(RunTest):
         for run_options, name, sentence in [
                 (["--node", "a"], "b", "there is no node 'b'"), ([], "a", "there is no node 'a'"),
                 (["--node", "a"], "../x", "there is no node '../x'")]:
-            run = self.start("--quiet", *run_options, "--", TKRUN, "node", name, "--", "touch", made)
+            run = self.start("--quiet", *run_options, "--", TKRUN, "node", name, "--", "touch",
+                             made)
             self.assertEqual((run.returncode, run.stdout, run.stderr),
                              (2, "", f"tkrun: node: {sentence}\n"))
         run = call([TKRUN, "node", "a", "--", "touch", made],
