@@ -639,6 +639,16 @@ enum tkc_code tkc_snapshot_get(struct tkc_time *out, const struct tkc_snapshot *
 			       uint32_t clock, uint64_t reading);
 
 /*
+ * Reads a clock as it was at the last command, without a reading of the counter: BOOTTIME and TAI
+ * too (ktime_get_coarse_ts64, ktime_get_coarse_real_ts64, ktime_get_coarse_boottime,
+ * ktime_get_coarse_clocktai). It stores what tkc_snapshot_get stores at the last command's reading.
+ * Returns TKC_BAD_CLOCK.
+ */
+TKC_MUST_CHECK
+enum tkc_code tkc_snapshot_coarse(struct tkc_time *out, const struct tkc_snapshot *snapshot,
+				  uint32_t clock);
+
+/*
  * Stores the numbers by which a program computes a clock without a call, up to the next accepted
  * command (update_vsyscall). As far as the line's span reaches, its value is the one that
  * tkc_snapshot_get stores, to the nanosecond. Returns TKC_BAD_CLOCK.
@@ -666,6 +676,25 @@ enum tkc_code tkc_snapshot_line(struct tkc_line *out, const struct tkc_snapshot 
 TKC_MUST_CHECK
 enum tkc_code tkc_snapshot_reading(uint64_t *out, const struct tkc_snapshot *snapshot,
 				   uint32_t clock, int64_t sec, uint32_t nsec);
+
+/*
+ * Tests a step of REALTIME by sec s, which may be negative, plus nsec ns, 0 to 999999999, and makes
+ * none. Stores REALTIME at the reading in *before, and in *after what TKC_CMD_STEP would make of it
+ * there (the tests and the sum of timekeeping_inject_offset in kernel/time/timekeeping.c). If the
+ * clocks then accept a STEP at this reading, without another command in between, its old and new
+ * REALTIME are these. For a time that is to be set, step by it minus *before of a step by 0.
+ *
+ * Returns the code that tkc_clock_apply returns for this STEP, except for TKC_FULL:
+ *   TKC_ASLEEP   the clocks are asleep
+ *   TKC_INVALID  the reading is above 2^bits - 1, or nsec is above 999999999
+ *   TKC_BEHIND   the reading is behind the last command's
+ *   TKC_RANGE    MONOTONIC or BOOTTIME is at or past its limit
+ *   TKC_INVALID  REALTIME would be below MONOTONIC, or outside the range of SET_TIME
+ */
+TKC_MUST_CHECK
+enum tkc_code tkc_snapshot_step(struct tkc_time *before, struct tkc_time *after,
+				const struct tkc_snapshot *snapshot, uint64_t reading, int64_t sec,
+				uint32_t nsec);
 
 /*
  * Converts `count` stamps into a clock's times, as numbers of nanoseconds, and stores them in the
@@ -890,6 +919,28 @@ enum tkc_code tkc_adjtimex(struct tkc_timex *timex, uint32_t *state, struct tkc_
  */
 TKC_MUST_CHECK
 enum tkc_code tkc_ntp_next_second(uint64_t *out, const struct tkc_ntp *ntp);
+
+/*
+ * Finds the coming leap second of steered clocks (ntp_get_next_leap in kernel/time/ntp.c, which
+ * finds only insertions). Returns what REALTIME moves by, in s: -1 if a second is inserted, 1 if
+ * one is deleted, and 0 if no leap is coming. Unless it is 0, stores in *second the second of
+ * REALTIME, since 1970, whose beginning is the leap: midnight at an insertion, and one second
+ * before midnight at a deletion. tkc_snapshot_reading finds its reading.
+ *
+ * The clocks plan a leap as the first second begins after its status bit was set: until then the
+ * result is 0. It is also 0 if the bit was cleared, or if a set, a step or a RESUME jumped over the
+ * leap. Ask again after each call that the clocks accept. They refuse the leap itself if it would
+ * put REALTIME below MONOTONIC.
+ */
+TKC_MUST_CHECK
+int64_t tkc_ntp_leap(uint64_t *second, const struct tkc_ntp *ntp);
+
+/* Return numbers of the discipline as replies contain them and as the last call left them: the bits
+ * of the status (enum tkc_sta), the frequency in 2^-16 ppm, and the tick in us. No second begins.
+ * The clocks may run at another rate, because of a phase or to make up for the lag. */
+TKC_PURE uint32_t tkc_ntp_status(const struct tkc_ntp *ntp);
+TKC_PURE int64_t tkc_ntp_frequency(const struct tkc_ntp *ntp);
+TKC_PURE int64_t tkc_ntp_tick(const struct tkc_ntp *ntp);
 
 /* Makes a snapshot of the steered clocks for readers, as tkc_clock_snapshot does. Use it for
  * readings up to the beginning of the next second, or the next call. */

@@ -235,6 +235,14 @@ static uint32_t get(const struct tkc_snapshot *snapshot, uint32_t clock, uint64_
 	return model_get(&model, clock, reading, time);
 }
 
+static uint64_t word(const struct tkc_snapshot *snapshot, int place)
+{
+	struct snapshot_of of;
+
+	memcpy(&of, snapshot, sizeof(of));
+	return of.words[place];
+}
+
 enum tkc_code tkc_snapshot_get(struct tkc_time *out, const struct tkc_snapshot *snapshot,
 			       uint32_t clock, uint64_t reading)
 {
@@ -244,6 +252,42 @@ enum tkc_code tkc_snapshot_get(struct tkc_time *out, const struct tkc_snapshot *
 	if (!code)
 		*out = (struct tkc_time){ (int64_t)(time / NANOS), (uint32_t)(time % NANOS), 0 };
 	return code;
+}
+
+enum tkc_code tkc_snapshot_coarse(struct tkc_time *out, const struct tkc_snapshot *snapshot,
+				  uint32_t clock)
+{
+	return tkc_snapshot_get(out, snapshot, clock, word(snapshot, 1));
+}
+
+/* Tests a step as model_apply does, but by the multiplier of the words. */
+enum tkc_code tkc_snapshot_step(struct tkc_time *before, struct tkc_time *after,
+				const struct tkc_snapshot *snapshot, uint64_t reading, int64_t sec,
+				uint32_t nsec)
+{
+	uint64_t last = word(snapshot, 1), mask;
+	struct tkc_time time;
+	i128 mono, real, stepped;
+	struct snapshot_of of;
+
+	memcpy(&of, snapshot, sizeof(of));
+	mask = UINT64_MAX >> (64 - of.bits);
+	if (of.words[7] % 2)
+		return TKC_ASLEEP;
+	if (reading > mask || nsec > 999999999)
+		return TKC_INVALID;
+	if (((reading - last) & mask) > mask / 2)
+		return TKC_BEHIND;
+	if (get(snapshot, TKC_CLOCK_MONOTONIC, reading, &mono) ||
+	    tkc_snapshot_get(&time, snapshot, TKC_CLOCK_BOOTTIME, reading))
+		return TKC_RANGE;
+	real = mono + of.words[5];
+	stepped = real + sec * NANOS + nsec;
+	if (stepped < mono || stepped >= 8277292036 * NANOS)
+		return TKC_INVALID;
+	*before = (struct tkc_time){ (int64_t)(real / NANOS), (uint32_t)(real % NANOS), 0 };
+	*after = (struct tkc_time){ (int64_t)(stepped / NANOS), (uint32_t)(stepped % NANOS), 0 };
+	return TKC_OK;
 }
 
 /* Returns the code of a time that a clock reaches at none of the searched readings, the last of
@@ -310,14 +354,6 @@ enum tkc_code tkc_snapshot_convert(uint64_t *out, size_t room, size_t *done,
 		out[*done] = (uint64_t)time;
 	}
 	return TKC_OK;
-}
-
-static uint64_t word(const struct tkc_snapshot *snapshot, int place)
-{
-	struct snapshot_of of;
-
-	memcpy(&of, snapshot, sizeof(of));
-	return of.words[place];
 }
 
 uint64_t tkc_snapshot_front(const struct tkc_snapshot *snapshot)

@@ -123,6 +123,45 @@ static void try_find(const struct tkc_snapshot *snapshot, uint32_t clock,
 	check(!memcmp(&again, &time, sizeof(time)));
 }
 
+/* Reads a clock at the last command, which gives what a read at its reading does. */
+static void try_coarse(const struct tkc_snapshot *snapshot, uint32_t clock, uint64_t last)
+{
+	struct tkc_time before, time;
+	struct tkc_time *out = fill(rooms.time, &before, sizeof(before));
+	uint32_t code = saw(tkc_snapshot_coarse(out, snapshot, clock));
+
+	check(code == TKC_OK || code == TKC_BAD_CLOCK);
+	check(!code || !memcmp(out, &before, sizeof(before)));
+	before = *out;
+	check(get(&time, snapshot, clock, last) == code);
+	check(code || !memcmp(&time, &before, sizeof(time)));
+}
+
+/* Tests a step, whose times are its amount apart. */
+static void try_step(const struct tkc_snapshot *snapshot, uint64_t reading, int64_t sec)
+{
+	struct tkc_time old[2];
+	struct tkc_time *before = fill(rooms.time, &old[0], sizeof(*old));
+	struct tkc_time *after = fill(rooms.out, &old[1], sizeof(*old));
+	uint32_t nsec = some_nsec();
+	uint32_t code = saw(tkc_snapshot_step(before, after, snapshot, reading, sec, nsec));
+	int64_t carry;
+
+	check(code == TKC_OK || code == TKC_ASLEEP || code == TKC_INVALID ||
+	      code == TKC_BEHIND || code == TKC_RANGE);
+	if (code) {
+		check(!memcmp(before, &old[0], sizeof(*old)));
+		check(!memcmp(after, &old[1], sizeof(*old)));
+		return;
+	}
+	check(before->sec >= 0 && before->nsec < 1000000000 && !before->padding);
+	check(after->sec >= 0 && after->sec < 8277292036 && after->nsec < 1000000000 &&
+	      !after->padding);
+	carry = before->nsec + nsec >= 1000000000;
+	check(after->sec - before->sec == sec + carry);
+	check(after->nsec == before->nsec + nsec - 1000000000 * carry);
+}
+
 void try_reads(const struct tkc_snapshot *of)
 {
 	const struct tkc_snapshot *snapshot = put(rooms.snapshot, of,
@@ -141,5 +180,8 @@ void try_reads(const struct tkc_snapshot *of)
 	      TKC_BAD_CLOCK);
 	try_convert(snapshot, one_in(10) ? (uint32_t)some() : clock, words[1]);
 	try_find(snapshot, clock, words[1]);
+	try_coarse(snapshot, one_in(10) ? (uint32_t)some() : clock, words[1]);
+	try_step(snapshot, one_in(10) ? some() : words[1] + (any() >> below(64)),
+		 (int64_t)some() >> below(40));
 	check(!memcmp(snapshot, of, sizeof(*of)));
 }

@@ -90,6 +90,23 @@ static void some_numbers(uint64_t numbers[NUMBERS])
 		numbers[15] = 0;
 }
 
+/* Asks for the coming leap of steered clocks with these numbers, and for the numbers of replies. */
+static void ask(const struct tkc_ntp *ntp, const uint64_t numbers[NUMBERS])
+{
+	uint64_t bit = numbers[2] == TKC_TIME_INS ? TKC_STA_INS :
+		       numbers[2] == TKC_TIME_DEL ? TKC_STA_DEL : 0;
+	bool is_coming = numbers[3] && numbers[4] >= numbers[16] && numbers[1] & bit;
+	uint64_t before;
+	uint64_t *second = fill(rooms.out, &before, sizeof(before));
+	int64_t by = tkc_ntp_leap(second, ntp), most = 32768000;
+
+	check(by == (!is_coming ? 0 : bit == TKC_STA_INS ? -1 : 1));
+	check(*second == (is_coming ? numbers[4] : before));
+	check(tkc_ntp_status(ntp) == numbers[1]);
+	check(tkc_ntp_tick(ntp) == (int64_t)numbers[9]);
+	check(tkc_ntp_frequency(ntp) >= -most && tkc_ntp_frequency(ntp) <= most);
+}
+
 static void try_load(const uint64_t given[TKC_NTP_SAVED_WORDS])
 {
 	const size_t size = TKC_NTP_SAVED_WORDS * sizeof(*given);
@@ -107,6 +124,7 @@ static void try_load(const uint64_t given[TKC_NTP_SAVED_WORDS])
 	words = place(rooms.words, size);
 	tkc_ntp_save(words, out);
 	check(!memcmp(words, given, size));
+	ask(out, given + TKC_SAVED_WORDS);
 }
 
 void try_saved_ntp(const struct tkc_clock *of)

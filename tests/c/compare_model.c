@@ -53,6 +53,7 @@ static void try_reads(const struct tkc_clock *clock, const struct model *model)
 	CHECK(expected == code);
 	CHECK(done == (code == TKC_BAD_CLOCK ? 99 : i));
 	compare_line(&snapshot, model, id);
+	compare_queries(&snapshot, model);
 }
 
 /* Returns a time in ns near one that the clock reads, or any other. */

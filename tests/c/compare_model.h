@@ -30,6 +30,9 @@ void try_command(struct tkc_clock *clock, struct model *model);
 /* Changes the counter to one of random numbers, which is stored if the change is accepted. */
 void try_change(struct tkc_clock *clock, struct model *model, struct tkc_counter *counter);
 
+/* Compares the clocks at their last command, and a random step that isn't made, with the model. */
+void compare_queries(const struct tkc_snapshot *snapshot, const struct model *model);
+
 /* Compares the line of a clock, if there is one of that number, with the model. */
 void compare_line(const struct tkc_snapshot *snapshot, const struct model *model, uint32_t clock);
 

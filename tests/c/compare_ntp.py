@@ -97,6 +97,10 @@ class Session:
             raise Refused("further" if self.steered.is_next_further() else "never")
         return f"next,{reading}"
 
+    def asked(self):
+        ntp, (by, second) = self.steered.ntp, self.steered.coming_leap()
+        return ",".join(map(str, ["asked", by, second, ntp.status, ntp.reply_freq(), ntp.tick]))
+
 
 class Records:
     """Random records about the clocks of a session. Requests are those of ntp.py."""
@@ -125,7 +129,7 @@ class Records:
             return f"get,{self.random.choice(list(CLOCKS))},{self.reading()}"
         if pick < 85:
             return f"{self.random.choice(['advance', 'late'])},{self.reading()}"
-        return self.command() if pick < 97 else "next"
+        return self.command() if pick < 95 else self.random.choice(["next", "asked"])
 
     def request(self, reading, fields):
         return ",".join(map(str, ["adjtimex", reading, *fields]))
@@ -152,7 +156,7 @@ class Records:
         first, second = (self.random.randrange(10**9) for _ in range(2))
         return [f"open,64,8388608,23,0,{DAY_END - 3},0,{self.random.choice([100, 250, 1000])}",
                 self.request(0, ntp_bounds.fields(ntp.STATUS | ntp.TAI, status=status, constant=tai)),
-                f"late,{10**9 + first}", f"late,{3 * 10**9 + second}"]
+                f"late,{10**9 + first}", "asked", f"late,{3 * 10**9 + second}", "asked"]
 
     def reading(self):
         """A reading some seconds after the last one; seldom one behind it or the account, or above the mask."""

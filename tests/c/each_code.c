@@ -128,6 +128,18 @@ static void empty_lists(const struct tkc_snapshot *snapshot, uint64_t out[3],
 	need(done == 0, "no stamp is converted into NULL");
 }
 
+/* Tests steps in a snapshot whose last reading is 7, a second before the end of MONOTONIC. */
+static void steps(const struct tkc_snapshot *snapshot)
+{
+	struct tkc_time before, after;
+
+	MEET(TKC_OK, tkc_snapshot_step(&before, &after, snapshot, 7, 1, 0));
+	need(after.sec == before.sec + 1 && after.nsec == before.nsec, "a step by a second");
+	MEET(TKC_INVALID, tkc_snapshot_step(&before, &after, snapshot, 7, INT64_MIN, 0));
+	MEET(TKC_BEHIND, tkc_snapshot_step(&before, &after, snapshot, 6, 1, 0));
+	MEET(TKC_RANGE, tkc_snapshot_step(&before, &after, snapshot, 2000000000, 1, 0));
+}
+
 static void reads(const struct tkc_clock *clock, const struct tkc_counter *counter)
 {
 	static const uint64_t stamps[] = { 7, 8, 2000000000 };
@@ -144,6 +156,10 @@ static void reads(const struct tkc_clock *clock, const struct tkc_counter *count
 	     tkc_snapshot_get(&time, &snapshot, TKC_CLOCK_TAI, UINT64_MAX));
 	MEET(TKC_RANGE, tkc_snapshot_get(&time, &snapshot, TKC_CLOCK_MONOTONIC,
 					 2000000000));
+	MEET(TKC_OK, tkc_snapshot_coarse(&time, &snapshot, TKC_CLOCK_BOOTTIME));
+	need(time.sec == 946080004 && time.nsec == 0, "BOOTTIME at the last command");
+	MEET(TKC_BAD_CLOCK, tkc_snapshot_coarse(&time, &snapshot, 2));
+	steps(&snapshot);
 	MEET(TKC_OK, tkc_snapshot_line(&line, &snapshot, TKC_CLOCK_BOOTTIME));
 	MEET(TKC_BAD_CLOCK, tkc_snapshot_line(&line, &snapshot, 2));
 	need(tkc_line_ns(&first, &line, 7) && first == 946080004000000000,

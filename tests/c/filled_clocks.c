@@ -155,6 +155,23 @@ static void snapshot_get(void *out)
 	made(tkc_snapshot_get(out, &snapshot, TKC_CLOCK_BOOTTIME, 12));
 }
 
+static void snapshot_coarse(void *out)
+{
+	struct tkc_snapshot snapshot;
+
+	fill_snapshot(&snapshot);
+	made(tkc_snapshot_coarse(out, &snapshot, TKC_CLOCK_TAI));
+}
+
+static void snapshot_step(void *out)
+{
+	struct tkc_snapshot snapshot;
+	struct tkc_time *times = out;
+
+	fill_snapshot(&snapshot);
+	made(tkc_snapshot_step(&times[0], &times[1], &snapshot, 12, -3, 1));
+}
+
 static void snapshot_line(void *out)
 {
 	struct tkc_snapshot snapshot;
@@ -212,6 +229,8 @@ const struct filled filled_clocks[] = {
 	{ "snapshot_from_words", snapshot_from_words, sizeof(struct tkc_snapshot) },
 	{ "snapshot_counter", snapshot_counter, sizeof(struct tkc_counter) },
 	{ "snapshot_get", snapshot_get, sizeof(struct tkc_time) },
+	{ "snapshot_coarse", snapshot_coarse, sizeof(struct tkc_time) },
+	{ "snapshot_step", snapshot_step, sizeof(struct tkc_time[2]) },
 	{ "snapshot_line", snapshot_line, sizeof(struct tkc_line) },
 	{ "line_get", line_get, sizeof(struct tkc_time) },
 	{ "snapshot_reading", snapshot_reading, sizeof(uint64_t) },

@@ -120,6 +120,16 @@ static void ntp_load(void *out)
 	made(tkc_ntp_load(out, words));
 }
 
+static void ntp_leap(void *out)
+{
+	struct tkc_ntp ntp;
+	int64_t by;
+
+	ntp_steered(&ntp);
+	make(by = tkc_ntp_leap(out, &ntp));
+	check(by == -1);
+}
+
 const struct filled filled_ntp[] = {
 	{ "ntp_open", ntp_open, sizeof(struct tkc_ntp) },
 	{ "ntp_open_at", ntp_open_at, sizeof(struct tkc_ntp) },
@@ -130,6 +140,7 @@ const struct filled filled_ntp[] = {
 	{ "ntp_load", ntp_load, sizeof(struct tkc_ntp) },
 	{ "ntp_save", ntp_save, sizeof(uint64_t[TKC_NTP_SAVED_WORDS]) },
 	{ "ntp_reply", ntp_reply, sizeof(struct tkc_timex) },
+	{ "ntp_leap", ntp_leap, sizeof(uint64_t) },
 	{ "ntp_snapshot", ntp_snapshot, sizeof(struct tkc_snapshot) },
 	{ NULL, NULL, 0 },
 };

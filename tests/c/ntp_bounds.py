@@ -12,6 +12,7 @@ from ntp import (ADJTIME, ESTERROR, FIELDS, FREQUENCY, MAXERROR, MICRO, NANO, OF
 PARTS, BITS = (1, 100, 250, 1000), (8, 32, 64)
 OPENED = 0, 1, 1024, 1025               # the bounds of hz, and one past each
 REFUSALS = "asleep", "behind", "invalid", "range"
+LEAPS = 0, -1, 1                        # what a coming leap second moves REALTIME by
 LATE = "a second", "several seconds", "an inserted second", "a deleted second"
 
 
@@ -68,6 +69,8 @@ class Met:
             self.counts["opened with", int(numbers[-1])] += 1
         if word == "late" and line.startswith("ok"):
             self.add_late(*session.began_late)
+        if line.startswith("asked,"):
+            self.counts["leap", int(line.split(",")[1])] += 1
         if word != "adjtimex":
             return
         request = Timex(*map(int, numbers[1:]))
@@ -97,10 +100,11 @@ class Met:
         wanted += [("refused", refusal) for refusal in REFUSALS]
         wanted += [("late", kind) for kind in LATE]
         wanted += [("opened with", hz) for hz in OPENED]
+        wanted += [("leap", by) for by in LEAPS]
         return [f"{name} {value}" for name, value in wanted if not self.counts[name, value]]
 
     def text(self):
-        kinds = {"hz": PARTS, "bits": BITS, "refused": REFUSALS, "late": LATE}
+        kinds = {"hz": PARTS, "bits": BITS, "refused": REFUSALS, "late": LATE, "leap": LEAPS}
         parts = [f"{kind} " + ", ".join(f"{value}: {self.counts[kind, value]}" for value in values)
                  for kind, values in kinds.items()]
         least = min(self.counts[bound] for bound in ALL)

@@ -200,6 +200,20 @@ static void print_next(const struct session *session, char *line)
 		snprintf(line, LINE_SIZE, "next,%" PRIu64, reading);
 }
 
+/* Prints the coming leap and the numbers of the discipline, which the calls must leave. */
+static void print_asked(const struct session *session, char *line)
+{
+	const struct tkc_ntp *ntp = &session->ntp, before = *ntp;
+	uint64_t second = 77;
+	int64_t by = tkc_ntp_leap(&second, ntp);
+
+	check(by >= -1 && by <= 1 && (by || second == 77));
+	snprintf(line, LINE_SIZE,
+		 "asked,%" PRId64 ",%" PRIu64 ",%" PRIu32 ",%" PRId64 ",%" PRId64, by,
+		 by ? second : 0, tkc_ntp_status(ntp), tkc_ntp_frequency(ntp), tkc_ntp_tick(ntp));
+	check(!memcmp(ntp, &before, sizeof(before)));
+}
+
 void answer(struct session *session, const char *text, char line[LINE_SIZE])
 {
 	struct record record = parsed(text);
@@ -218,6 +232,8 @@ void answer(struct session *session, const char *text, char line[LINE_SIZE])
 		get(session, &record, line);
 	else if (!strcmp(record.word, "next"))
 		print_next(session, line);
+	else if (!strcmp(record.word, "asked"))
+		print_asked(session, line);
 	else
 		check(!"a record");
 }

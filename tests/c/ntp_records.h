@@ -16,10 +16,12 @@
  *							CONSTANT,TICK,TAI
  *	get,CLOCK,READING				at,SEC.NSEC
  *	next						next,READING
+ *	asked						asked,BY,SECOND,STATUS,FREQ,TICK
  *
  * PARTS is the discipline's hz. `late` advances with tkc_ntp_advance_late, and
- * `get` advances first with tkc_ntp_advance. A call that fails is answered
- * `no,CODE`.
+ * `get` advances first with tkc_ntp_advance. BY and SECOND are those of
+ * tkc_ntp_leap, and SECOND is 0 if no leap is coming. A call that fails is
+ * answered `no,CODE`.
  */
 #ifndef NTP_RECORDS_H
 #define NTP_RECORDS_H

@@ -195,6 +195,7 @@ int main(void)
 	try_refused_changes();
 	try_reads();
 	try_lines();
+	try_queries();
 	try_kept_reads();
 	try_lists();
 	try_far_lists();

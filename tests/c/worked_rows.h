@@ -90,6 +90,7 @@ void try_changes(void);
 void try_refused_changes(void);
 void try_reads(void);
 void try_lines(void);
+void try_queries(void);
 void try_kept_reads(void);
 void try_lists(void);
 void try_far_lists(void);

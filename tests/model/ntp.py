@@ -193,13 +193,17 @@ class Discipline:
             self.update_frequency()
         return tai
 
+    def reply_freq(self):
+        """The frequency in 2^-16 ppm (PPM_SCALE_INV)."""
+        return toward_zero((self.frequency >> 19) * 34_359_739, ONE)
+
     def reply(self, offset, sec, nsec, tai):
         """The fields of a reply, from STATE to TAI."""
         nano = self.status & STA_NANO
         if offset is None:
             offset = toward_zero(self.offset * self.hz, ONE)
             offset = offset if nano else toward_zero(offset, 1000)
-        freq = toward_zero((self.frequency >> 19) * 34_359_739, ONE)
+        freq = self.reply_freq()
         state = "Error" if self.status & (STA_UNSYNC | STA_CLOCKERR) else self.state
         return (state, sec, nsec if nano else nsec // 1000, offset, freq, self.maxerror, self.esterror,
                 self.status, self.constant, self.tick, tai)

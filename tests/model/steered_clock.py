@@ -4,6 +4,7 @@ in crates/tk_ntp return, and `tkc_ntp_..` and `tkc_adjtimex` of include/tkcore.h
 The discipline is that of ntp.py. Here it gets a clock: the seconds of REALTIME begin at readings of the
 counter, and the length of each second becomes a tick and a frequency.
 """
+from copy import copy
 from dataclasses import dataclass, replace
 
 from model import NANOS, TAI_LIMIT, Counter, is_bad_setting, is_settable, limit, value_of
@@ -144,6 +145,12 @@ class Steered:
         counter = [clock.counter.bits, clock.counter.mult, clock.counter.shift]
         words = clock.words(self.front) + counter + [clock.frequency, clock.tick] + self.numbers()
         return [number % 2**64 for number in words]
+
+    def coming_leap(self):
+        """What REALTIME leaps by as one of the seconds from the next one on begins, and that second; or 0 and 0."""
+        due = self.ntp.due
+        by = copy(self.ntp).leap(due) if due is not None and due >= self.next else 0
+        return by, due if by else 0
 
     def restore(self, hz, status, state, is_due, due, offset, constant, maxerror, esterror, tick, frequency, reftime,
                 adjust, phase, high, low, following, mark):

@@ -18,7 +18,7 @@ sys.path.insert(0, str(ROOT / "tests" / "c"))
 import compare_ntp
 
 TABLES = ["fresh", "frequencies", "pll", "fll", "microseconds", "adjtime", "inserted", "deleted",
-          "set", "errors", "steps", "ticks", "late", "inserted_late", "late_refused"]
+          "set", "leaps", "deletions", "errors", "steps", "ticks", "late", "inserted_late", "late_refused"]
 NAMES = {name: getattr(tkcore, name.title().replace("_", "")) for name in
          ("ASLEEP", "AWAKE", "INVALID", "BEHIND", "RANGE", "FURTHER", "NEVER", "BAD_COMMAND")}
 
@@ -87,6 +87,10 @@ class Session:
 
     def next(self):
         return f"next,{self.clock.next_second()}"
+
+    def asked(self):
+        clock, (second, by) = self.clock, self.clock.coming_leap() or (0, 0)
+        return f"asked,{by},{second},{clock.status.value},{clock.frequency},{clock.tick}"
 
 
 class Worked(unittest.TestCase):

@@ -49,6 +49,42 @@ class Cycles(unittest.TestCase):
             self.assertEqual((raised.exception.value, raised.exception.range), (-1, (0, 2**64 - 1)))
 
 
+class Queries(unittest.TestCase):
+    """The tables of worked_queries.c."""
+
+    def test_coarse(self):
+        snapshot = commanded().snapshot()
+        for clock, sec, nsec in rows("worked_queries.c", "coarse"):
+            self.assertEqual(snapshot.coarse(clock_id(clock)), nanos(sec, nsec))
+        for clock in (2, 2**32 - 1, 2**32):
+            with self.assertRaises(tkcore.BadClock):
+                snapshot.coarse(clock)
+
+    def test_steps(self):
+        for table, opening in (("steps", commanded), ("far_steps", opened_wide)):
+            for reading, sec, nsec, code, before, after in rows("worked_queries.c", table):
+                if nsec == NANOS:
+                    continue  # the package splits nanoseconds itself
+                clock, amount = opening(), nanos(sec, nsec)
+                found = raises(self, code, lambda: clock.snapshot().stepped(reading, amount))
+                made = raises(self, code, lambda: clock.step(reading, amount))
+                if code == "OK":
+                    self.assertEqual(found, (nanos(*before[:2]), nanos(*after[:2])))
+                else:
+                    self.assertEqual((found.what, found.value, found.range),
+                                     (made.what, made.value, made.range))
+
+    def test_refused_arguments(self):
+        snapshot = commanded().snapshot()
+        for reading, amount in ((-1, 0), (2**64, 0), (9000, 2**63 * NANOS)):
+            with self.assertRaises(tkcore.Invalid):
+                snapshot.stepped(reading, amount)
+        clock = commanded()
+        clock.suspend(9000)
+        with self.assertRaises(tkcore.Asleep):
+            clock.snapshot().stepped(9000, 0)
+
+
 class Uptimes(unittest.TestCase):
     def test_openings(self):
         counter = nanosecond_counter()

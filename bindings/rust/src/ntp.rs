@@ -326,6 +326,36 @@ impl SteeredClock {
         sys::ntp_next_second(&self.value).map_err(Refusal::of_code)
     }
 
+    /// Returns the second of REALTIME, since 1970, whose beginning is the coming leap second, and
+    /// what REALTIME moves by there: -1 s if a second is inserted, 1 s if one is deleted.
+    ///
+    /// `None` means that no leap is coming: none is planned, its status bit was cleared, or a set, a
+    /// step or a [`Resume`](Command::Resume) jumped over it. A leap is planned as the first second
+    /// begins after its bit was set.
+    #[must_use]
+    pub fn coming_leap(&self) -> Option<(u64, i64)> {
+        let (second, by) = sys::ntp_leap(&self.value);
+        (by != 0).then_some((second, by))
+    }
+
+    /// Returns the bits of the [`status`]: the field of a reply.
+    #[must_use]
+    pub fn status(&self) -> u32 {
+        sys::ntp_status(&self.value)
+    }
+
+    /// Returns the frequency of the discipline, in 2^-16 ppm: the field `freq` of a reply.
+    #[must_use]
+    pub fn frequency(&self) -> i64 {
+        sys::ntp_frequency(&self.value)
+    }
+
+    /// Returns the tick of the discipline, in us: the field of a reply.
+    #[must_use]
+    pub fn tick(&self) -> i64 {
+        sys::ntp_tick(&self.value)
+    }
+
     /// Returns the counter of the clocks.
     #[must_use]
     pub fn counter(&self) -> &Counter {

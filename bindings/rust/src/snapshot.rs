@@ -111,6 +111,24 @@ impl Snapshot {
         sys::snapshot_get(&self.value, clock as u32, reading).map_err(Refusal::of_code)
     }
 
+    /// Returns a clock's time at the last command, without a reading of the counter.
+    #[inline]
+    #[must_use]
+    pub fn coarse(&self, clock: ClockId) -> Timespec {
+        sys::snapshot_coarse(&self.value, clock as u32)
+    }
+
+    /// Returns REALTIME at a reading without and with a step by `by`, whose `sec` may be negative.
+    /// Makes no step.
+    ///
+    /// # Errors
+    ///
+    /// The errors that [`Clock::apply`](crate::Clock::apply) returns for this step, except for
+    /// `Full`.
+    pub fn stepped(&self, reading: u64, by: Timespec) -> Result<(Timespec, Timespec), Refusal> {
+        sys::snapshot_step(&self.value, reading, by).map_err(Refusal::of_code)
+    }
+
     /// Returns the first reading at which a clock has reached a time, of the last command's reading
     /// and the (2^bits - 1) / 2 readings after it.
     ///

@@ -15,8 +15,8 @@ use crate::{ClockWords, Refusal, Timespec, SAVED_WORDS, WORDS};
 mod ntp;
 
 pub(crate) use ntp::{
-    adjtimex, ntp_advance, ntp_advance_late, ntp_apply, ntp_load, ntp_next_second, ntp_open,
-    ntp_open_at, ntp_save, ntp_snapshot, NtpValue,
+    adjtimex, ntp_advance, ntp_advance_late, ntp_apply, ntp_frequency, ntp_leap, ntp_load,
+    ntp_next_second, ntp_open, ntp_open_at, ntp_save, ntp_snapshot, ntp_status, ntp_tick, NtpValue,
 };
 
 /// The version of the header that these declarations follow, as `TKC_VERSION`.
@@ -105,6 +105,15 @@ extern "C" {
         snapshot: *const SnapshotValue,
         clock: u32,
         reading: u64,
+    ) -> u32;
+    fn tkc_snapshot_coarse(out: *mut Timespec, snapshot: *const SnapshotValue, clock: u32) -> u32;
+    fn tkc_snapshot_step(
+        before: *mut Timespec,
+        after: *mut Timespec,
+        snapshot: *const SnapshotValue,
+        reading: u64,
+        sec: i64,
+        nsec: u32,
     ) -> u32;
     fn tkc_snapshot_reading(
         out: *mut u64,
@@ -279,6 +288,30 @@ pub(crate) fn snapshot_get(
 ) -> Result<Timespec, u32> {
     // SAFETY: `out` is valid for a write of a `struct tkc_time`, and the snapshot is a value.
     made(|out| unsafe { tkc_snapshot_get(out, snapshot, clock, reading) })
+}
+
+/// Returns a clock's time at the last command. The call refuses only a number that no clock has.
+#[inline]
+pub(crate) fn snapshot_coarse(snapshot: &SnapshotValue, clock: u32) -> Timespec {
+    let mut out = Timespec::default();
+    // SAFETY: `out` is a `struct tkc_time`, and the snapshot is a value.
+    unsafe { tkc_snapshot_coarse(&mut out, snapshot, clock) };
+    out
+}
+
+/// Returns REALTIME without and with a step, or the code of its refusal.
+pub(crate) fn snapshot_step(
+    snapshot: &SnapshotValue,
+    reading: u64,
+    by: Timespec,
+) -> Result<(Timespec, Timespec), u32> {
+    let (mut before, mut after) = (Timespec::default(), Timespec::default());
+    let Timespec { sec, nsec } = by;
+    // SAFETY: both are `struct tkc_time`, and the snapshot is a value.
+    match unsafe { tkc_snapshot_step(&mut before, &mut after, snapshot, reading, sec, nsec) } {
+        0 => Ok((before, after)),
+        code => Err(code),
+    }
 }
 
 #[inline]

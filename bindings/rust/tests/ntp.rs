@@ -81,6 +81,12 @@ fn get(clock: &mut SteeredClock, n: &[i128]) -> Result<String, Refusal> {
     Ok(format!("at,{}.{:09}", time.sec, time.nsec))
 }
 
+fn asked(clock: &SteeredClock) -> String {
+    let (second, by) = clock.coming_leap().unwrap_or((0, 0));
+    let (status, frequency, tick) = (clock.status(), clock.frequency(), clock.tick());
+    format!("asked,{by},{second},{status},{frequency},{tick}")
+}
+
 fn answer(clock: &mut Option<SteeredClock>, record: &str) -> Result<String, Refusal> {
     let mut fields = record.split(',');
     let word = fields.next().expect("a word");
@@ -97,6 +103,7 @@ fn answer(clock: &mut Option<SteeredClock>, record: &str) -> Result<String, Refu
         "adjtimex" => ask(clock, &n),
         "get" => get(clock, &n),
         "next" => clock.next_second().map(|reading| format!("next,{reading}")),
+        "asked" => Ok(asked(clock)),
         "advance" => clock.advance(n[0] as u64).map(done),
         "late" => clock.advance_late(n[0] as u64).map(done),
         _ => {
@@ -110,6 +117,7 @@ fn command(n: &[i128]) -> Command {
     let time = Timespec { sec: n[2] as i64, nsec: n[3] as u32 };
     match n[1] {
         1 => Command::SetTime(time),
+        2 => Command::Step(time),
         6 => Command::Suspend,
         number => {
             assert_eq!(number, 7);
@@ -121,7 +129,7 @@ fn command(n: &[i128]) -> Command {
 #[test]
 fn worked_rows() {
     let rows = rows();
-    assert_eq!(rows.len(), 126);
+    assert_eq!(rows.len(), 159);
     let mut clock = None;
     for (record, wanted) in rows {
         let found = answer(&mut clock, &record).unwrap_or_else(name);

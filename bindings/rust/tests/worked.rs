@@ -5,7 +5,9 @@
 
 mod support;
 
-use support::{command, commanded, nanosecond_counter, of, opened, opened_wide, stored, table};
+use support::{
+    command, commanded, nanosecond_counter, of, opened, opened_wide, stored, table, Item,
+};
 use tkcore::{Clock, ClockId, ClockWords, Command, Counter, Refusal, Snapshot, Timespec, WORDS};
 
 #[test]
@@ -139,6 +141,37 @@ fn reads() {
         let wanted = Timespec { sec: row[1].number(), nsec: row[2].number() };
         let clock = row[0].clock().unwrap();
         assert_eq!(commanded().snapshot().get(clock, 9100), Ok(wanted));
+    }
+}
+
+#[test]
+fn clocks_at_the_last_command() {
+    let snapshot = commanded().snapshot();
+    for row in table("worked_queries.c", "coarse") {
+        let row = row.list();
+        let wanted = Timespec { sec: row[1].number(), nsec: row[2].number() };
+        assert_eq!(snapshot.coarse(row[0].clock().unwrap()), wanted);
+    }
+}
+
+#[test]
+fn steps_that_are_not_made() {
+    for (name, opening) in [("steps", commanded as fn() -> Clock), ("far_steps", opened_wide)] {
+        for row in table("worked_queries.c", name) {
+            let row = row.list();
+            let time = |item: &Item| {
+                let item = item.list();
+                Timespec { sec: item[0].number(), nsec: item[1].number() }
+            };
+            let by = Timespec { sec: row[1].number(), nsec: row[2].number() };
+            let found = opening().snapshot().stepped(row[0].number(), by);
+            let made = opening().apply(row[0].number(), Command::Step(by));
+            assert_eq!(of(&found), row[3].refusal(), "{row:?}");
+            assert_eq!(of(&made), row[3].refusal(), "{row:?}");
+            if let Ok(times) = found {
+                assert_eq!(times, (time(&row[4]), time(&row[5])));
+            }
+        }
     }
 }
 

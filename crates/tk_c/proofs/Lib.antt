@@ -3,5 +3,7 @@ mod Loading
 mod LoadingNtp
 mod Narrow
 mod NoStamps
+mod Ranges
 mod Restoring
+mod StepTests
 mod Stored

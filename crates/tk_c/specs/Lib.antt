@@ -11,6 +11,8 @@ pub mod Reached
 pub mod Restored
 pub mod Saved
 pub mod SavedNtp
+pub mod SteeredParts
+pub mod Steps
 pub mod Version
 pub mod Lists
 pub mod Timex

@@ -124,7 +124,7 @@ fn requested_rate(rate: u64) -> u32
 }
 
 /// Writes a counter to `out` and returns the code of success, or returns the code of the fault.
-fn write(out: &mut CounterStorage, made: Result<CounterDesc, DescError>) -> u32
+pub(crate) fn write(out: &mut CounterStorage, made: Result<CounterDesc, DescError>) -> u32
     ensures { MatchResult made
         (λ counter. (result ≡ number_of Done) × (out.new ≡ counter_storage counter))
         (λ fault. (result ≡ number_of (code_of_fault fault)) × (out.new ≡ out.old)) }

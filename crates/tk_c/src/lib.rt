@@ -5,8 +5,8 @@
 //! |---|---|
 //! | `tkc_counter_*` | make counters from numbers or from a rate, store a counter's numbers, compute with its cycles |
 //! | `tkc_clock_*` | open the running clocks, apply commands, change the counter, return the frequency and the tick, convert clocks to and from words, with their counter or without |
-//! | `tkc_snapshot_*` | read one time or a list of times, find the reading of a time, return a clock's line and a snapshot's numbers, convert snapshots to and from words |
-//! | `tkc_ntp_*`, `tkc_adjtimex` | open steered clocks, advance them, apply commands, answer requests, convert them to and from words with their counter |
+//! | `tkc_snapshot_*` | read one time, at a reading or at the last command, or a list of times; test a step; find the reading of a time, return a clock's line and a snapshot's numbers, convert snapshots to and from words |
+//! | `tkc_ntp_*`, `tkc_adjtimex` | open steered clocks, advance them, apply commands, answer requests, return the coming leap and numbers of the discipline, convert them to and from words with their counter |
 //! | `tkc_version` | returns the archive's version |
 //! | `CountedClock` | the clocks with their count of commands, `struct tkc_clock` in C |
 //! | `CountedNtp`, `NtpStorage` | steered clocks with their count of calls, `struct tkc_ntp` in C |
@@ -20,6 +20,7 @@
 
 mod change_counter;
 mod clocks;
+mod coarse;
 mod code;
 mod counted;
 mod counted_ntp;
@@ -36,6 +37,8 @@ mod reached;
 mod saved;
 mod saved_ntp;
 mod snapshots;
+mod steered_parts;
+mod steps;
 mod storage;
 mod timex;
 mod version;
@@ -43,6 +46,7 @@ mod words;
 
 pub use change_counter::tkc_clock_change_counter;
 pub use clocks::{tkc_clock_apply, tkc_clock_open, tkc_clock_open_at, tkc_clock_snapshot};
+pub use coarse::tkc_snapshot_coarse;
 pub use code::Code;
 pub use counted::CountedClock;
 pub use counted_ntp::CountedNtp;
@@ -64,6 +68,8 @@ pub use reached::tkc_snapshot_reading;
 pub use saved::{SAVED_WORDS, tkc_clock_load, tkc_clock_save};
 pub use saved_ntp::{NTP_SAVED_WORDS, tkc_ntp_load, tkc_ntp_save};
 pub use snapshots::{tkc_snapshot_convert, tkc_snapshot_get};
+pub use steered_parts::{tkc_ntp_frequency, tkc_ntp_leap, tkc_ntp_status, tkc_ntp_tick};
+pub use steps::tkc_snapshot_step;
 pub use storage::{BaseStorage, ClockStorage, CounterStorage, SnapshotStorage, TimeStorage};
 pub use timex::KernelTimex;
 pub use version::tkc_version;

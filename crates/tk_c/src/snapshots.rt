@@ -69,7 +69,12 @@ fn get_named(out: &mut TimeStorage, snapshot: &Snapshot, clock: u32, reading: u6
 
 /// Writes a clock's time at a reading, or returns the code of the first test that fails.
 #[inline(always)]
-fn get_known(out: &mut TimeStorage, snapshot: &Snapshot, clock: ClockId, reading: u64) -> u32
+pub(crate) fn get_known(
+    out: &mut TimeStorage,
+    snapshot: &Snapshot,
+    clock: ClockId,
+    reading: u64,
+) -> u32
     ensures { IsRead snapshot.now.base clock reading out.old out.new result }
 {
     match snapshot.get(clock, reading) {

@@ -1,7 +1,7 @@
 /* SPDX-License-Identifier: GPL-2.0 */
 /*
- * Until the library answers such queries: the status bits and the coming leap second are taken from
- * the saved words. tk_ask() then becomes two calls.
+ * The status bits and the coming leap second are taken from the saved words. tk_ask() becomes two
+ * calls with tkc_ntp_status() and tkc_ntp_leap().
  */
 
 /* Stores the status bits, and the MONOTONIC at which an inserted second begins, or KTIME_MAX. */

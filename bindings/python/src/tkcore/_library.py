@@ -73,6 +73,7 @@ ReadCounter = ctypes.CFUNCTYPE(c_uint64, c_void_p)
 
 _COUNTER, _CLOCK = POINTER(CounterValue), POINTER(ClockValue)
 _SNAPSHOT, _NTP = POINTER(SnapshotValue), POINTER(NtpValue)
+_TIME = POINTER(TimeValue)
 _NUMBER, _WORDS = POINTER(c_uint32), POINTER(c_uint64)
 _MAKE = [_COUNTER, c_uint32, c_uint64, c_uint32]
 _LOOK = [c_void_p, c_uint32, ReadCounter, _SNAPSHOT, _WORDS]
@@ -96,7 +97,9 @@ _CALLS = {
     "tkc_snapshot_front": (c_uint64, [_SNAPSHOT]),
     "tkc_snapshot_tai": (c_uint32, [_SNAPSHOT]),
     "tkc_snapshot_asleep": (c_uint32, [_SNAPSHOT]),
-    "tkc_snapshot_get": (c_uint32, [POINTER(TimeValue), _SNAPSHOT, c_uint32, c_uint64]),
+    "tkc_snapshot_get": (c_uint32, [_TIME, _SNAPSHOT, c_uint32, c_uint64]),
+    "tkc_snapshot_coarse": (c_uint32, [_TIME, _SNAPSHOT, c_uint32]),
+    "tkc_snapshot_step": (c_uint32, [_TIME, _TIME, _SNAPSHOT, c_uint64, c_int64, c_uint32]),
     "tkc_snapshot_reading": (c_uint32, [_WORDS, _SNAPSHOT, c_uint32, c_int64, c_uint32]),
     "tkc_snapshot_words": (None, [_WORDS, _SNAPSHOT]),
     "tkc_snapshot_from_words": (c_uint32, [_SNAPSHOT, _COUNTER, _WORDS]),
@@ -113,6 +116,10 @@ _CALLS = {
     "tkc_ntp_apply": (c_uint32, [_NTP, c_uint64, c_uint32, c_int64, c_uint32]),
     "tkc_adjtimex": (c_uint32, [POINTER(TimexValue), _NUMBER, _NTP, c_uint64]),
     "tkc_ntp_next_second": (c_uint32, [_WORDS, _NTP]),
+    "tkc_ntp_leap": (c_int64, [_WORDS, _NTP]),
+    "tkc_ntp_status": (c_uint32, [_NTP]),
+    "tkc_ntp_frequency": (c_int64, [_NTP]),
+    "tkc_ntp_tick": (c_int64, [_NTP]),
     "tkc_ntp_snapshot": (None, [_SNAPSHOT, _NTP]),
     "tkc_ntp_save": (None, [_WORDS, _NTP]),
     "tkc_ntp_load": (c_uint32, [_NTP, _WORDS]),

@@ -8,10 +8,9 @@ from typing import NoReturn, Tuple
 from ._library import I64, NANOS, U32, U64, fit
 from .counter import Counter
 from .errors import BY_CODE, BadCommand, Behind, Full, Invalid
-from .snapshot import ClockId, Snapshot
+from .snapshot import SETTABLE, ClockId, Snapshot
 
 _NSECS = (0, NANOS - 1)
-SETTABLE = (0, 8_277_292_035)
 TICKS = (9_000, 11_000)
 _TAI_OFFSETS = (0, 100_000)
 
@@ -165,12 +164,10 @@ class Commanded:
         """Raises Invalid for a time, or an amount that moves REALTIME, in ns: REALTIME may be set
         neither below MONOTONIC at the reading nor to its limit."""
         snapshot = self.snapshot()
-        monotonic = snapshot.get(reading, ClockId.MONOTONIC)
-        ahead = snapshot.words()[5]  # REALTIME minus MONOTONIC, in ns
-        start = monotonic + ahead if moves else 0
-        within = (monotonic - start, SETTABLE[1] * NANOS + NANOS - 1 - start)
-        what = "the step of REALTIME, in ns," if moves else "REALTIME, in ns,"
-        raise Invalid(what, time, within)
+        if moves:
+            raise Invalid("the step of REALTIME, in ns,", time, snapshot._steps(reading))
+        within = (snapshot.get(reading, ClockId.MONOTONIC), SETTABLE[1] * NANOS + NANOS - 1)
+        raise Invalid("REALTIME, in ns,", time, within)
 
 
 def split(time: int, seconds: Tuple[int, int], what: str) -> Tuple[int, int]:

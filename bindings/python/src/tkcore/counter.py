@@ -57,16 +57,17 @@ class Counter:
         return cls._of_value(value)
 
     @classmethod
-    def _from_rate(cls, call: Any, bits: int, rate: int, maxsec: int, what: str) -> Counter:
+    def _from_rate(cls, call: Any, bits: int, rate: int, maxsec: int, what: str,
+                   rates: Tuple[int, int] = _RATES) -> Counter:
         value = CounterValue()
         bits = fit(bits, U32, BadBits, "bits", _BITS)
-        rate = fit(rate, U64, BadRate, what, _RATES)
+        rate = fit(rate, U64, BadRate, what, rates)
         maxsec = fit(maxsec, U32, BadRate, "maxsec", _SPANS)
         code = call(byref(value), bits, rate, maxsec)
         if code == BadBits.code:
             raise BadBits("bits", bits, _BITS)
         if code:
-            fit(rate, _RATES, BadRate, what)
+            fit(rate, rates, BadRate, what)
             raise BY_CODE[code]("maxsec", maxsec, _SPANS)
         return cls._of_value(value)
 

@@ -5,7 +5,7 @@ from __future__ import annotations
 import enum
 from ctypes import byref, c_uint32, c_uint64
 from dataclasses import dataclass
-from typing import Any, Iterable, NoReturn, Tuple
+from typing import Any, Iterable, NoReturn, Optional, Tuple
 
 from ._library import (CALLS, I64, NANOS, U32, U64, NtpSavedWords, NtpValue, SnapshotValue,
                        TimexValue, fit, raise_code)
@@ -228,6 +228,33 @@ class SteeredClock(Commanded):
         code = CALLS.tkc_ntp_next_second(byref(reading), byref(self._value))
         raise_code(code, "REALTIME doesn't reach the next second")
         return reading.value
+
+    def coming_leap(self) -> Optional[Tuple[int, int]]:
+        """Returns the second of REALTIME whose beginning is the coming leap second, in s since
+        1970, and what REALTIME moves by there: -1 s if a second is inserted, 1 s if one is deleted.
+
+        None means that no leap is coming: none is planned, its status bit was cleared, or a set, a
+        step or a `resume` jumped over it. A leap is planned as the first second begins after its
+        bit was set.
+        """
+        second = c_uint64()
+        by = CALLS.tkc_ntp_leap(byref(second), byref(self._value))
+        return (second.value, by) if by else None
+
+    @property
+    def status(self) -> Status:
+        """The bits of the status: the field of a reply."""
+        return Status(CALLS.tkc_ntp_status(byref(self._value)))
+
+    @property
+    def frequency(self) -> int:
+        """The frequency of the discipline, in 2^-16 ppm: the field `freq` of a reply."""
+        return CALLS.tkc_ntp_frequency(byref(self._value))
+
+    @property
+    def tick(self) -> int:
+        """The tick of the discipline, in us: the field of a reply."""
+        return CALLS.tkc_ntp_tick(byref(self._value))
 
     def snapshot(self) -> Snapshot:
         """Returns a snapshot of the clocks, for reads up to the beginning of the next second."""

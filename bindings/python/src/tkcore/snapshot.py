@@ -12,13 +12,16 @@ from ._buffers import check_apart, numbers
 from ._library import (CALLS, I64, NANOS, U32, U64, WORDS, SnapshotValue, TimeValue, Words, fit,
                        integer, raise_code)
 from .counter import Counter
-from .errors import BY_CODE, BadClock, BadRoom, BadWords, Invalid, Range
+from .errors import BY_CODE, BadClock, BadRoom, BadWords, Behind, Invalid, Range
 
 if TYPE_CHECKING:
     import numpy
 
     Array = numpy.ndarray[Any, Any]
     Stamps = Union["array[int]", memoryview, Array, Any]
+
+
+SETTABLE = (0, 8_277_292_035)
 
 
 class ClockId(enum.IntEnum):
@@ -106,6 +109,51 @@ class Snapshot:
             raise self._refused(code, clock, reading, "reading")
         nanos: int = time.sec * NANOS + time.nsec
         return nanos
+
+    def coarse(self, clock: int) -> int:
+        """Returns a clock's time at the last command, in ns, without a reading of the counter.
+
+        Raises BadClock.
+        """
+        time = TimeValue()
+        code = CALLS.tkc_snapshot_coarse(byref(time), byref(self._value),
+                                         fit(clock, U32, BadClock, "clock"))
+        raise_code(code, "clock", clock)
+        return time.sec * NANOS + time.nsec
+
+    def stepped(self, reading: int, amount: int) -> Tuple[int, int]:
+        """Returns REALTIME at a reading, in ns, without and with a step by an amount in ns, which
+        may be negative. Makes no step.
+
+        Raises what `Clock.step` raises for this reading and this amount, except for Full.
+        """
+        before, after = TimeValue(), TimeValue()
+        reading = fit(reading, U64, Invalid, "reading", (0, self.counter.max_reading))
+        within = (I64[0] * NANOS, I64[1] * NANOS + NANOS - 1)
+        sec, nsec = divmod(fit(amount, within, Invalid, "amount"), NANOS)
+        code = CALLS.tkc_snapshot_step(byref(before), byref(after), byref(self._value), reading,
+                                       sec, nsec)
+        if code:
+            raise self._unstepped(code, reading, amount)
+        return before.sec * NANOS + before.nsec, after.sec * NANOS + after.nsec
+
+    def _unstepped(self, code: int, reading: int, amount: int) -> Exception:
+        """Returns the exception of a refused step."""
+        last, mask = self.words()[1], self.counter.max_reading
+        if code == Invalid.code and reading > mask:
+            return Invalid("reading", reading, (0, mask))
+        if code == Behind.code:
+            return Behind("reading", reading, (last, (last + mask // 2) & mask))
+        if code == Invalid.code:
+            return Invalid("the step of REALTIME, in ns,", amount, self._steps(reading))
+        return BY_CODE[code]("STEP is refused")
+
+    def _steps(self, reading: int) -> Tuple[int, int]:
+        """Returns the least and the greatest amount, in ns, by which REALTIME may be stepped at a
+        reading: to MONOTONIC, and to the last time that may be set."""
+        ahead = self.words()[5]  # REALTIME minus MONOTONIC, in ns
+        real = self.get(reading, ClockId.MONOTONIC) + ahead
+        return -ahead, SETTABLE[1] * NANOS + NANOS - 1 - real
 
     def get_datetime64(self, reading: int, clock: int) -> numpy.datetime64:
         """Returns a clock's time at a reading as numpy's datetime64[ns]. It raises what `get` does.

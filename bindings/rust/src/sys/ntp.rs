@@ -66,6 +66,10 @@ extern "C" {
         reading: u64,
     ) -> u32;
     fn tkc_ntp_next_second(out: *mut u64, ntp: *const NtpValue) -> u32;
+    fn tkc_ntp_leap(second: *mut u64, ntp: *const NtpValue) -> i64;
+    fn tkc_ntp_status(ntp: *const NtpValue) -> u32;
+    fn tkc_ntp_frequency(ntp: *const NtpValue) -> i64;
+    fn tkc_ntp_tick(ntp: *const NtpValue) -> i64;
     fn tkc_ntp_snapshot(out: *mut SnapshotValue, ntp: *const NtpValue);
     fn tkc_ntp_save(words: *mut u64, ntp: *const NtpValue);
     fn tkc_ntp_load(out: *mut NtpValue, words: *const u64) -> u32;
@@ -165,6 +169,29 @@ fn fields(timex: &TimexValue) -> Timex {
 pub(crate) fn ntp_next_second(ntp: &NtpValue) -> Result<u64, u32> {
     // SAFETY: `out` is valid for a write, and the clocks are a value.
     made(|out| unsafe { tkc_ntp_next_second(out, ntp) })
+}
+
+/// Returns the second of the coming leap and what REALTIME moves by, or 0 and 0.
+pub(crate) fn ntp_leap(ntp: &NtpValue) -> (u64, i64) {
+    let mut second = 0;
+    // SAFETY: `second` is a number, and the clocks are a value.
+    let by = unsafe { tkc_ntp_leap(&mut second, ntp) };
+    (second, by)
+}
+
+pub(crate) fn ntp_status(ntp: &NtpValue) -> u32 {
+    // SAFETY: the clocks are a value.
+    unsafe { tkc_ntp_status(ntp) }
+}
+
+pub(crate) fn ntp_frequency(ntp: &NtpValue) -> i64 {
+    // SAFETY: the clocks are a value.
+    unsafe { tkc_ntp_frequency(ntp) }
+}
+
+pub(crate) fn ntp_tick(ntp: &NtpValue) -> i64 {
+    // SAFETY: the clocks are a value.
+    unsafe { tkc_ntp_tick(ntp) }
 }
 
 #[inline]
