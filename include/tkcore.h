@@ -220,7 +220,8 @@ enum tkc_code {
 	TKC_BAD_MULT = 34,
 	/* The mult plus 11 percent doesn't fit in 32 bits (clocksource_max_adjustment). */
 	TKC_BAD_ADJUST = 35,
-	/* The rate in Hz or kHz is 0 or above 2^32 - 1, or the span is not 1 to 600 seconds. */
+	/* The rate in Hz or kHz is 0 or above 2^32 - 1, or for tkc_counter_finest above 10^12 Hz; or
+	 * the span is not 1 to 600 seconds. */
 	TKC_BAD_RATE = 36
 };
 
@@ -493,6 +494,24 @@ enum tkc_code tkc_counter_from_hz(struct tkc_counter *out, uint32_t bits, uint64
 TKC_MUST_CHECK
 enum tkc_code tkc_counter_from_khz(struct tkc_counter *out, uint32_t bits, uint64_t khz,
 				   uint32_t maxsec);
+
+/*
+ * Makes the counter that runs at hz cycles a second, 1 to 10^12, with readings of 8 to 64 bits, and
+ * with the finest mult for gaps of up to maxsec seconds, 1 to 600. In such a gap, tkc_line_get
+ * reads each clock up to its limit with one product of 64 bits, at any frequency and tick, unless
+ * the gap is above half of the counter's range.
+ *
+ * The shift is the greatest of 1 to 32 at which mult = (10^9 * 2^shift + hz / 2) / hz, as in
+ * clocks_calc_mult_shift, and most = mult + mult * 11 / 100 have these two properties: most is
+ * below 2^32, and 10^9 * 2^shift + maxsec * hz * most is at most 2^64. All divisions round down.
+ * tkc_counter_from_hz bounds the bits of both factors instead, and may halve the mult, so its shift
+ * is often smaller (docs/C.md, "Choosing maxsec").
+ *
+ * Returns TKC_BAD_BITS, and then TKC_BAD_RATE, if a number is out of its range.
+ */
+TKC_MUST_CHECK
+enum tkc_code tkc_counter_finest(struct tkc_counter *out, uint32_t bits, uint64_t hz,
+				 uint32_t maxsec);
 
 /*
  * Stores the numbers of a counter: the bits of a reading, and mult and shift (the fields mask, mult

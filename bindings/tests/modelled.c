@@ -62,6 +62,14 @@ enum tkc_code tkc_counter_from_khz(struct tkc_counter *out, uint32_t bits, uint6
 	return of_rate(out, bits, 1000, khz, maxsec);
 }
 
+enum tkc_code tkc_counter_finest(struct tkc_counter *out, uint32_t bits, uint64_t hz,
+				 uint32_t maxsec)
+{
+	uint32_t mult, shift, code = model_finest(bits, hz, maxsec, &mult, &shift);
+
+	return code ? code : tkc_counter_new(out, bits, mult, shift);
+}
+
 void tkc_counter_numbers(uint32_t *bits, uint32_t *mult, uint32_t *shift,
 			 const struct tkc_counter *counter)
 {

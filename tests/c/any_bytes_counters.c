@@ -26,7 +26,8 @@ static uint32_t try_from_rate(struct tkc_counter *counter)
 	uint32_t maxsec = one_in(4) ? (uint32_t)some() : (uint32_t)below(603);
 	uint64_t rate = some() >> some() % 64;
 	uint32_t code = saw(one_in(2) ? tkc_counter_from_hz(out, bits, rate, maxsec) :
-					tkc_counter_from_khz(out, bits, rate, maxsec));
+			    one_in(2) ? tkc_counter_from_khz(out, bits, rate, maxsec) :
+					tkc_counter_finest(out, bits, rate, maxsec));
 
 	check(code == TKC_OK || code == TKC_BAD_BITS || code == TKC_BAD_RATE);
 	check(!code || !memcmp(out, &before, sizeof(before)));

@@ -23,6 +23,11 @@ static uint32_t make_from_rate(struct tkc_counter *counter, struct numbers *numb
 	uint64_t rate = any() >> below(64), scale = below(2) ? 1000 : 1;
 	uint32_t code = model_rate(bits, rate, maxsec);
 
+	if (below(2)) {
+		code = model_finest(bits, rate, maxsec, &numbers->mult, &numbers->shift);
+		CHECK(tkc_counter_finest(counter, bits, rate, maxsec) == code);
+		return code;
+	}
 	if (scale == 1)
 		CHECK(tkc_counter_from_hz(counter, bits, rate, maxsec) == code);
 	else

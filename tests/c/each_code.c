@@ -44,6 +44,9 @@ static void counters(struct tkc_counter *counter)
 	MEET(TKC_BAD_ADJUST, tkc_counter_new(&out, 32, 4000000000, 2));
 	MEET(TKC_BAD_RATE, tkc_counter_from_hz(&out, 64, 4700000000, 600));
 	MEET(TKC_BAD_RATE, tkc_counter_from_khz(&out, 64, 0, 600));
+	MEET(TKC_BAD_RATE, tkc_counter_finest(&out, 64, 1000000000001, 600));
+	MEET(TKC_BAD_BITS, tkc_counter_finest(&out, 65, 4700000000, 600));
+	MEET(TKC_OK, tkc_counter_finest(&out, 64, 4700000000, 600));
 	MEET(TKC_OK, tkc_counter_from_khz(&out, 64, 4700000, 600));
 	MEET(TKC_OK, tkc_counter_new(counter, 32, 1 << 24, 24));
 }

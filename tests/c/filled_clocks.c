@@ -25,6 +25,11 @@ static void counter_from_khz(void *out)
 	made(tkc_counter_from_khz(out, 64, 4700000, 600));
 }
 
+static void counter_finest(void *out)
+{
+	made(tkc_counter_finest(out, 64, 4491000000, 60));
+}
+
 static void clock_open(void *out)
 {
 	struct tkc_counter counter = filled_counter();
@@ -215,6 +220,7 @@ const struct filled filled_clocks[] = {
 	{ "counter_new", counter_new, sizeof(struct tkc_counter) },
 	{ "counter_from_hz", counter_from_hz, sizeof(struct tkc_counter) },
 	{ "counter_from_khz", counter_from_khz, sizeof(struct tkc_counter) },
+	{ "counter_finest", counter_finest, sizeof(struct tkc_counter) },
 	{ "clock_open", clock_open, sizeof(struct tkc_clock) },
 	{ "clock_open_at", clock_open_at, sizeof(struct tkc_clock) },
 	{ "clock_apply", fill_commanded, sizeof(struct tkc_clock) },

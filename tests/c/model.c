@@ -53,6 +53,24 @@ void model_scale(uint64_t scale, uint64_t rate, uint32_t maxsec, uint32_t *mult,
 	*mult = (uint32_t)exact;
 }
 
+uint32_t model_finest(uint32_t bits, uint64_t hz, uint32_t maxsec, uint32_t *mult, uint32_t *shift)
+{
+	u128 cycles = (u128)hz * maxsec, exact, most;
+
+	if (bits < 8 || bits > 64)
+		return TKC_BAD_BITS;
+	if (!hz || hz > 1000000000000 || !maxsec || maxsec > 600)
+		return TKC_BAD_RATE;
+	*shift = 33;
+	do {
+		--*shift;
+		exact = (((u128)1000000000 << *shift) + hz / 2) / hz;
+		most = exact + exact * 11 / 100;
+	} while (most >> 32 || ((u128)1000000000 << *shift) + cycles * most > (u128)1 << 64);
+	*mult = (uint32_t)exact;
+	return TKC_OK;
+}
+
 void model_open(struct model *model, uint32_t bits, uint32_t mult, uint32_t shift)
 {
 	memset(model, 0, sizeof(*model));

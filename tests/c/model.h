@@ -33,6 +33,9 @@ uint32_t model_rate(uint32_t bits, uint64_t rate, uint32_t maxsec);
  * 1, and of a rate in kHz 1000. */
 void model_scale(uint64_t scale, uint64_t rate, uint32_t maxsec, uint32_t *mult, uint32_t *shift);
 
+/* Returns the code of tkc_counter_finest, and at TKC_OK stores the mult and the shift. */
+uint32_t model_finest(uint32_t bits, uint64_t hz, uint32_t maxsec, uint32_t *mult, uint32_t *shift);
+
 /* Makes awake clocks of a counter that model_counter accepts, at the reading 0 and the time 0. */
 void model_open(struct model *model, uint32_t bits, uint32_t mult, uint32_t shift);
 

@@ -23,7 +23,8 @@ class Counters(unittest.TestCase):
                 self.assertEqual((made.bits, made.mult, made.shift), (bits, mult, shift))
 
     def test_rates(self):
-        makers = {"rates_hz": tkcore.Counter.from_hz, "rates_khz": tkcore.Counter.from_khz}
+        makers = {"rates_hz": tkcore.Counter.from_hz, "rates_khz": tkcore.Counter.from_khz,
+                  "rates_finest": tkcore.Counter.finest}
         for table, make in makers.items():
             for bits, rate, maxsec, code, mult, shift in rows("worked_counters.c", table):
                 made = raises(self, code, lambda: make(bits, rate, maxsec))

@@ -43,6 +43,17 @@ impl Counter {
         Counter::of_value(|| sys::counter_from_khz(bits, khz, maxsec))
     }
 
+    /// Makes the counter that runs at `hz` cycles a second, 1 to 10^12, with the finest mult for gaps
+    /// of up to `maxsec` seconds, 1 to 600: the greatest shift at which such gaps convert with
+    /// products of 64 bits.
+    ///
+    /// # Errors
+    ///
+    /// `OtherVersion`, `BadBits` or `BadRate`, tested in this order.
+    pub fn finest(bits: u32, hz: u64, maxsec: u32) -> Result<Counter, Refusal> {
+        Counter::of_value(|| sys::counter_finest(bits, hz, maxsec))
+    }
+
     /// Makes a counter, if the linked library has the values that this crate declares. Values that
     /// aren't made from a counter need the same test.
     fn of_value(make: impl FnOnce() -> Result<sys::CounterValue, u32>) -> Result<Counter, Refusal> {

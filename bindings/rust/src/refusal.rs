@@ -38,7 +38,8 @@ pub enum Refusal {
     BadMult,
     /// The mult plus 11 percent doesn't fit in 32 bits.
     BadAdjust,
-    /// The rate isn't 1 to 2^32 - 1, or the span isn't 1 to 600 s.
+    /// The rate isn't 1 to 2^32 - 1, or 1 to 10^12 Hz of `Counter::finest`, or the span isn't 1 to
+    /// 600 s.
     BadRate,
     /// A writer was inside at each try.
     Busy,

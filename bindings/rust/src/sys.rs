@@ -54,6 +54,7 @@ extern "C" {
     fn tkc_counter_new(out: *mut CounterValue, bits: u32, mult: u32, shift: u32) -> u32;
     fn tkc_counter_from_hz(out: *mut CounterValue, bits: u32, hz: u64, maxsec: u32) -> u32;
     fn tkc_counter_from_khz(out: *mut CounterValue, bits: u32, khz: u64, maxsec: u32) -> u32;
+    fn tkc_counter_finest(out: *mut CounterValue, bits: u32, hz: u64, maxsec: u32) -> u32;
     fn tkc_counter_numbers(
         bits: *mut u32,
         mult: *mut u32,
@@ -194,6 +195,11 @@ pub(crate) fn counter_from_hz(bits: u32, hz: u64, maxsec: u32) -> Result<Counter
 pub(crate) fn counter_from_khz(bits: u32, khz: u64, maxsec: u32) -> Result<CounterValue, u32> {
     // SAFETY: `out` is valid for a write.
     made(|out| unsafe { tkc_counter_from_khz(out, bits, khz, maxsec) })
+}
+
+pub(crate) fn counter_finest(bits: u32, hz: u64, maxsec: u32) -> Result<CounterValue, u32> {
+    // SAFETY: `out` is valid for a write.
+    made(|out| unsafe { tkc_counter_finest(out, bits, hz, maxsec) })
 }
 
 /// Returns the bits, the mult and the shift.

@@ -25,10 +25,15 @@ fn counters_of_numbers() {
 
 #[test]
 fn counters_of_rates() {
-    for (name, is_hz) in [("rates_hz", true), ("rates_khz", false)] {
+    type Make = fn(u32, u64, u32) -> Result<Counter, Refusal>;
+    let makers: [(&str, Make); 3] = [
+        ("rates_hz", Counter::from_hz),
+        ("rates_khz", Counter::from_khz),
+        ("rates_finest", Counter::finest),
+    ];
+    for (name, make) in makers {
         for row in table("worked_counters.c", name) {
             let row = row.list();
-            let make = if is_hz { Counter::from_hz } else { Counter::from_khz };
             let made = make(row[0].number(), row[1].number(), row[2].number());
             assert_eq!(of(&made), row[3].refusal(), "{row:?}");
             if made.is_ok() {

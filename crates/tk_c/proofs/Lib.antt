@@ -1,3 +1,4 @@
+mod FinestShift
 mod Halves
 mod Loading
 mod LoadingNtp

@@ -4,6 +4,7 @@ pub mod Storage
 pub mod Counted
 pub mod ChangeCounter
 pub mod Converted
+pub mod Finest
 pub mod Lines
 pub mod Rate
 pub mod Read

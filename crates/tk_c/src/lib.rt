@@ -3,7 +3,7 @@
 //!
 //! | Item | Its meaning |
 //! |---|---|
-//! | `tkc_counter_*` | make counters from numbers or from a rate, store a counter's numbers, compute with its cycles |
+//! | `tkc_counter_*` | make counters from numbers or from a rate, also with the finest mult; store a counter's numbers, compute with its cycles |
 //! | `tkc_clock_*` | open the running clocks, apply commands, change the counter, return the frequency and the tick, convert clocks to and from words, with their counter or without |
 //! | `tkc_snapshot_*` | read one time, at a reading or at the last command, or a list of times; test a step; find the reading of a time, return a clock's line and a snapshot's numbers, convert snapshots to and from words |
 //! | `tkc_ntp_*`, `tkc_adjtimex` | open steered clocks, advance them, apply commands, answer requests, return the coming leap and numbers of the discipline, convert them to and from words with their counter |
@@ -26,6 +26,7 @@ mod counted;
 mod counted_ntp;
 mod counters;
 mod cycles;
+mod finest;
 mod general_registers;
 mod lines;
 mod named;
@@ -55,6 +56,7 @@ pub use counters::{
     tkc_snapshot_counter,
 };
 pub use cycles::{tkc_counter_gap, tkc_counter_nanos};
+pub use finest::tkc_counter_finest;
 pub use lines::tkc_snapshot_line;
 pub use ntp::{
     tkc_adjtimex, tkc_ntp_advance, tkc_ntp_advance_late, tkc_ntp_apply, tkc_ntp_next_second,

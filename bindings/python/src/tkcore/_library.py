@@ -83,6 +83,7 @@ _CALLS = {
     "tkc_counter_new": (c_uint32, [_COUNTER, c_uint32, c_uint32, c_uint32]),
     "tkc_counter_from_hz": (c_uint32, _MAKE),
     "tkc_counter_from_khz": (c_uint32, _MAKE),
+    "tkc_counter_finest": (c_uint32, _MAKE),
     "tkc_counter_numbers": (None, [_NUMBER, _NUMBER, _NUMBER, _COUNTER]),
     "tkc_counter_gap": (c_uint64, [_COUNTER, c_uint64, c_uint64]),
     "tkc_counter_nanos": (c_uint64, [_COUNTER, c_uint64]),

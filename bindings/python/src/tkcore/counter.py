@@ -9,7 +9,7 @@ from ._library import CALLS, U32, U64, CounterValue, SnapshotValue, fit
 from .errors import BY_CODE, BadBits, BadMult, BadRate, BadShift, Invalid
 
 _BITS, _SHIFTS, _MULTS = (8, 64), (0, 32), (256, 3_869_339_906)
-_RATES, _SPANS = (1, 2**32 - 1), (1, 600)
+_RATES, _FINEST_RATES, _SPANS = (1, 2**32 - 1), (1, 10**12), (1, 600)
 
 
 class Counter:
@@ -90,6 +90,16 @@ class Counter:
         Raises BadBits, and then BadRate, with the number that is out of its range.
         """
         return cls._from_rate(CALLS.tkc_counter_from_khz, bits, khz, maxsec, "khz")
+
+    @classmethod
+    def finest(cls, bits: int, hz: int, maxsec: int = 600) -> Counter:
+        """Returns the counter that runs at `hz` cycles a second, 1 to 10^12, with readings of 8 to
+        64 bits, and with the finest mult for gaps of up to `maxsec` seconds, 1 to 600: the greatest
+        shift at which such gaps convert with products of 64 bits.
+
+        Raises BadBits, and then BadRate, with the number that is out of its range.
+        """
+        return cls._from_rate(CALLS.tkc_counter_finest, bits, hz, maxsec, "hz", _FINEST_RATES)
 
     @property
     def max_reading(self) -> int:
