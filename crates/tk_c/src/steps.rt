@@ -1,12 +1,12 @@
 //! Tests steps of REALTIME without making them.
-ghost use Rattle.std.specs.Prelude.{◌≡◌, ◌⊎◌, ◌≤◌, ◌*◌, ◌^◌, ℤ, pos, ◌+ℤ◌, ◌<ℤ◌, ◌≤ℤ◌, MatchOption, MatchResult, Some, None};
+ghost use Rattle.std.specs.Prelude.{◌≡◌, ◌⊎◌, ◌<◌, ◌≤◌, ◌+◌, ◌*◌, ◌^◌, ℤ, pos, ◌+ℤ◌, ◌<ℤ◌, ◌≤ℤ◌, MatchOption, MatchResult, Some, None};
 ghost use Rattle.tk_counter.specs.Counter.{mask};
 ghost use Rattle.tk_clock.specs.declared.clock_id.ClockId.{ClockId};
 ghost use Rattle.tk_clock.specs.declared.clock_id.ClockId.TheVariants.{Realtime, Monotonic, Boottime};
 ghost use Rattle.tk_clock.specs.declared.command.Command.TheVariants.{Step};
 ghost use Rattle.tk_clock.specs.declared.refusal.Refusal.TheVariants.{Range};
 ghost use Rattle.tk_clock.specs.declared.timespec.Timespec.{Timespec};
-ghost use Rattle.tk_clock.specs.Limits.{limit, settable_end};
+ghost use Rattle.tk_clock.specs.Limits.{limit, clock_end, monotonic_end, settable_end};
 ghost use Rattle.tk_clock.specs.Refusal.{early_refusal};
 ghost use Rattle.tk_clock.specs.State.{base_value};
 ghost use Rattle.tk_clock.specs.Time.{nanoseconds};
@@ -18,7 +18,7 @@ use tk_clock::{ClockId, Refusal, Snapshot, Timespec};
 use tk_counter::NANOS_PER_SECOND;
 
 /// The end of the times that REALTIME may be set to, in ns (`TIME_SETTOD_SEC_MAX`).
-const SETTABLE_LIMIT: i128 = 8_277_292_036_000_000_000;
+const SETTABLE_LIMIT: u64 = 8_277_292_036_000_000_000;
 
 /// Writes REALTIME at a reading to `before`, and REALTIME after a step by `sec` s plus `nsec` ns
 /// there to `after`. It makes no step.
@@ -104,7 +104,7 @@ fn stepped_within(
         (λ refusal. step_refusal base reading by ≡ Some refusal) }
 {
     let real = monotonic + snapshot.origin(ClockId::Realtime).offset;
-    match moved(monotonic, real, by) {
+    match settable(monotonic, real, by) {
         Some(after) => Ok((real, after)),
         None => Err(Refusal::Invalid),
     }
@@ -124,28 +124,47 @@ fn monotonic_within(snapshot: &Snapshot, reading: u64) -> Result<u64, Refusal>
     let Ok(monotonic) = snapshot.nanos(ClockId::Monotonic, reading) else {
         return Err(Refusal::Range);
     };
-    if snapshot.nanos(ClockId::Boottime, reading).is_err() {
+    let Ok(_) = snapshot.nanos(ClockId::Boottime, reading) else {
         return Err(Refusal::Range);
-    }
+    };
     Ok(monotonic)
 }
 
 /// Returns REALTIME after it is moved by an amount, in ns, or `None` if it is below MONOTONIC then,
 /// or at a time that may not be set.
-fn moved(monotonic: u64, real: u64, by: Timespec) -> Option<u64>
+fn settable(monotonic: u64, real: u64, by: Timespec) -> Option<u64>
+    requires { real < (clock_end + monotonic_end) * 10 ^ 9 }
     ensures { let after = pos real +ℤ nanoseconds by in
         MatchOption result
         ((after <ℤ pos monotonic) ⊎ (pos (settable_end * 10 ^ 9) ≤ℤ after))
         (λ nanos. (pos nanos ≡ after) × (pos monotonic ≤ℤ after)
         × (after <ℤ pos (settable_end * 10 ^ 9))) }
 {
-    let after = i128::from(real)
-        + i128::from(by.sec) * i128::from(NANOS_PER_SECOND)
-        + i128::from(by.nsec);
-    if after < i128::from(monotonic) || after >= SETTABLE_LIMIT {
+    let Some(after) = moved(real, by) else {
+        return None;
+    };
+    if after < monotonic || after >= SETTABLE_LIMIT {
         return None;
     }
-    Some(after as u64)
+    Some(after)
+}
+
+/// Returns a time in ns, moved by an amount, or `None` if the result is below 0 or doesn't fit in 64
+/// bits.
+fn moved(real: u64, by: Timespec) -> Option<u64>
+    requires { real < (clock_end + monotonic_end) * 10 ^ 9 }
+    ensures { let moved = pos real +ℤ nanoseconds by in
+        MatchOption result
+        ((moved <ℤ pos 0) ⊎ (pos (2 ^ 64) ≤ℤ moved))
+        (λ nanos. pos nanos ≡ moved) }
+{
+    let upward = real + u64::from(by.nsec);
+    let whole = by.sec.unsigned_abs().checked_mul(NANOS_PER_SECOND)?;
+    if by.sec < 0 {
+        upward.checked_sub(whole)
+    } else {
+        upward.checked_add(whole)
+    }
 }
 
 /// Runs the tests of a step that don't depend on a clock's value.
