@@ -1,3 +1,4 @@
+mod FinestCounter
 mod FinestShift
 mod Halves
 mod Loading

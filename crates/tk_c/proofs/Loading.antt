@@ -15,7 +15,7 @@ use Rattle.tk_c.specs.declared.counted.CountedClock.{CountedClock}
 use Rattle.tk_c.specs.declared.storage.ClockStorage.{ClockStorage}
 
 -- the description of a counter has no fault
-no_fault : (counter : Counter) → IsCounter counter → first_fault counter ≡ None
+pub no_fault : (counter : Counter) → IsCounter counter → first_fault counter ≡ None
 no_fault counter is = search rules
 
 -- the frequency and the tick of running clocks fit in 64 bits

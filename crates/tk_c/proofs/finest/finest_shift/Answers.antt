@@ -1,4 +1,4 @@
-use Rattle.std.proofs.Common.{arith, sym, refl, ◌-◌, ◌+◌, ◌≡◌, ◌≤◌, ◌<◌, ⊎_elim}
+use Rattle.std.proofs.Common.{arith, sym, ◌-◌, ◌+◌, ◌≡◌, ◌≤◌, ◌<◌, ⊎_elim}
 use Rattle.std.proofs.lemmas.Bool.{cases_lt}
 use Rattle.tk_c.specs.Finest.{counter_at}
 use Rattle.tk_c.proofs.FinestShift.{exact_short, exact_at_1, low_mult, ample}
