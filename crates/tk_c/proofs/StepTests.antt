@@ -1,6 +1,6 @@
 -- The tests of a step by the values of the clocks.
-use Rattle.std.proofs.Common.{◌≡◌, ◌⊎◌, ℕ, ◌+◌, ◌*◌, ◌^◌, ◌∙◌, refl, arith, Bool, true, false, inl, inr}
-use Rattle.std.specs.Prelude.{◌≤◌, Ok, Err, unsigned_abs, ℤ, pos, ◌+ℤ◌, ◌<ℤ◌, ◌≤ℤ◌, int_lt, not, ◌&&◌, ◌||◌, nat_lt, Option, Some, None, if◌then◌else◌}
+use Rattle.std.proofs.Common.{◌≡◌, ◌⊎◌, ℕ, ◌+◌, ◌*◌, ◌^◌, refl, arith, Bool, true, false, inl, inr}
+use Rattle.std.specs.Prelude.{◌≤◌, Ok, Err, unsigned_abs, ℤ, pos, ◌+ℤ◌, ◌<ℤ◌, ◌≤ℤ◌, int_lt, not, ◌||◌, nat_lt, Option, Some, None, if◌then◌else◌}
 use Rattle.std.proofs.lemmas.Int.{ints}
 use Rattle.std.proofs.lemmas.Grind.{common_steps}
 use Rattle.tk_clock.specs.declared.clock_id.ClockId.{ClockId}
@@ -15,7 +15,7 @@ use Rattle.tk_clock.specs.Limits.{limit, is_past_limit, is_bad_setting, is_well_
 use Rattle.std.proofs.lemmas.Bool.{le-ltb}
 use Rattle.tk_counter.specs.Counter.{mask}
 use Rattle.tk_clock.specs.Read.{read_of, unless_refused}
-use Rattle.tk_clock.specs.Refusal.{first_of, early_refusal, value_refusal}
+use Rattle.tk_clock.specs.Refusal.{early_refusal, value_refusal}
 use Rattle.tk_clock.specs.State.{ReadBase, base_value}
 use Rattle.tk_clock.specs.Time.{nanoseconds}
 use Rattle.tk_c.specs.Steps.{step_refusal}
