@@ -959,7 +959,7 @@ int64_t tkc_ntp_leap(uint64_t *second, const struct tkc_ntp *ntp);
  * The clocks may run at another rate, because of a phase or to make up for the lag. */
 TKC_PURE uint32_t tkc_ntp_status(const struct tkc_ntp *ntp);
 TKC_PURE int64_t tkc_ntp_frequency(const struct tkc_ntp *ntp);
-TKC_PURE int64_t tkc_ntp_tick(const struct tkc_ntp *ntp);
+TKC_PURE int64_t tkc_ntp_tick_length(const struct tkc_ntp *ntp);
 
 /* Makes a snapshot of the steered clocks for readers, as tkc_clock_snapshot does. Use it for
  * readings up to the beginning of the next second, or the next call. */

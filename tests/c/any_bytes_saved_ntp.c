@@ -103,7 +103,7 @@ static void ask(const struct tkc_ntp *ntp, const uint64_t numbers[NUMBERS])
 	check(by == (!is_coming ? 0 : bit == TKC_STA_INS ? -1 : 1));
 	check(*second == (is_coming ? numbers[4] : before));
 	check(tkc_ntp_status(ntp) == numbers[1]);
-	check(tkc_ntp_tick(ntp) == (int64_t)numbers[9]);
+	check(tkc_ntp_tick_length(ntp) == (int64_t)numbers[9]);
 	check(tkc_ntp_frequency(ntp) >= -most && tkc_ntp_frequency(ntp) <= most);
 }
 

@@ -210,7 +210,7 @@ static void print_asked(const struct session *session, char *line)
 	check(by >= -1 && by <= 1 && (by || second == 77));
 	snprintf(line, LINE_SIZE,
 		 "asked,%" PRId64 ",%" PRIu64 ",%" PRIu32 ",%" PRId64 ",%" PRId64, by,
-		 by ? second : 0, tkc_ntp_status(ntp), tkc_ntp_frequency(ntp), tkc_ntp_tick(ntp));
+		 by ? second : 0, tkc_ntp_status(ntp), tkc_ntp_frequency(ntp), tkc_ntp_tick_length(ntp));
 	check(!memcmp(ntp, &before, sizeof(before)));
 }
 

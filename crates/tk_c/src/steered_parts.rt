@@ -78,7 +78,7 @@ fn coarse(frequency: i64) -> i64
 /// Returns the tick that the discipline was asked for, in microseconds: the field `tick` of a
 /// reply.
 #[unsafe(no_mangle)]
-pub extern "C" fn tkc_ntp_tick(ntp: &CountedNtp) -> i64
+pub extern "C" fn tkc_ntp_tick_length(ntp: &CountedNtp) -> i64
     ensures { result ≡ pos ntp.now.steered.steering.ntp.tick }
 {
     i64::from(ntp.steered.numbers().steering.ntp.tick)

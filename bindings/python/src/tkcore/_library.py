@@ -120,7 +120,7 @@ _CALLS = {
     "tkc_ntp_leap": (c_int64, [_WORDS, _NTP]),
     "tkc_ntp_status": (c_uint32, [_NTP]),
     "tkc_ntp_frequency": (c_int64, [_NTP]),
-    "tkc_ntp_tick": (c_int64, [_NTP]),
+    "tkc_ntp_tick_length": (c_int64, [_NTP]),
     "tkc_ntp_snapshot": (None, [_SNAPSHOT, _NTP]),
     "tkc_ntp_save": (None, [_WORDS, _NTP]),
     "tkc_ntp_load": (c_uint32, [_NTP, _WORDS]),

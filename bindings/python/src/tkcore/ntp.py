@@ -254,7 +254,7 @@ class SteeredClock(Commanded):
     @property
     def tick(self) -> int:
         """The tick of the discipline, in us: the field of a reply."""
-        return CALLS.tkc_ntp_tick(byref(self._value))
+        return CALLS.tkc_ntp_tick_length(byref(self._value))
 
     def snapshot(self) -> Snapshot:
         """Returns a snapshot of the clocks, for reads up to the beginning of the next second."""

@@ -69,7 +69,7 @@ extern "C" {
     fn tkc_ntp_leap(second: *mut u64, ntp: *const NtpValue) -> i64;
     fn tkc_ntp_status(ntp: *const NtpValue) -> u32;
     fn tkc_ntp_frequency(ntp: *const NtpValue) -> i64;
-    fn tkc_ntp_tick(ntp: *const NtpValue) -> i64;
+    fn tkc_ntp_tick_length(ntp: *const NtpValue) -> i64;
     fn tkc_ntp_snapshot(out: *mut SnapshotValue, ntp: *const NtpValue);
     fn tkc_ntp_save(words: *mut u64, ntp: *const NtpValue);
     fn tkc_ntp_load(out: *mut NtpValue, words: *const u64) -> u32;
@@ -191,7 +191,7 @@ pub(crate) fn ntp_frequency(ntp: &NtpValue) -> i64 {
 
 pub(crate) fn ntp_tick(ntp: &NtpValue) -> i64 {
     // SAFETY: the clocks are a value.
-    unsafe { tkc_ntp_tick(ntp) }
+    unsafe { tkc_ntp_tick_length(ntp) }
 }
 
 #[inline]
