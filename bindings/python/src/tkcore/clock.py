@@ -7,10 +7,10 @@ from typing import Any, Iterable, Tuple
 
 from ._library import (CALLS, I64, NANOS, U64, ClockValue, SavedWords, SnapshotValue, Words, fit,
                        raise_code)
-from .commands import SETTABLE, Commanded, split
+from .commands import Commanded, split
 from .counter import Counter
 from .errors import BY_CODE, BadWords, Invalid, Range
-from .snapshot import Snapshot, words_of
+from .snapshot import SETTABLE, Snapshot, words_of
 
 UPTIME_LIMIT = 946_080_000 * NANOS
 

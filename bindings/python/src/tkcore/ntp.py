@@ -10,10 +10,10 @@ from typing import Any, Iterable, NoReturn, Optional, Tuple
 from ._library import (CALLS, I64, NANOS, U32, U64, NtpSavedWords, NtpValue, SnapshotValue,
                        TimexValue, fit, raise_code)
 from .clock import raise_opening, split_uptime
-from .commands import SETTABLE, TICKS, Commanded, split
+from .commands import TICKS, Commanded, split
 from .counter import Counter
 from .errors import BY_CODE, Behind, Invalid
-from .snapshot import Snapshot, words_of
+from .snapshot import SETTABLE, Snapshot, words_of
 
 
 class Mode(enum.IntFlag):
@@ -249,12 +249,14 @@ class SteeredClock(Commanded):
     @property
     def frequency(self) -> int:
         """The frequency of the discipline, in 2^-16 ppm: the field `freq` of a reply."""
-        return CALLS.tkc_ntp_frequency(byref(self._value))
+        frequency: int = CALLS.tkc_ntp_frequency(byref(self._value))
+        return frequency
 
     @property
     def tick(self) -> int:
         """The tick of the discipline, in us: the field of a reply."""
-        return CALLS.tkc_ntp_tick_length(byref(self._value))
+        tick: int = CALLS.tkc_ntp_tick_length(byref(self._value))
+        return tick
 
     def snapshot(self) -> Snapshot:
         """Returns a snapshot of the clocks, for reads up to the beginning of the next second."""

@@ -119,7 +119,8 @@ class Snapshot:
         code = CALLS.tkc_snapshot_coarse(byref(time), byref(self._value),
                                          fit(clock, U32, BadClock, "clock"))
         raise_code(code, "clock", clock)
-        return time.sec * NANOS + time.nsec
+        nanos: int = time.sec * NANOS + time.nsec
+        return nanos
 
     def stepped(self, reading: int, amount: int) -> Tuple[int, int]:
         """Returns REALTIME at a reading, in ns, without and with a step by an amount in ns, which
