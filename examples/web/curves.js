@@ -170,7 +170,7 @@ export class Curves {
         return this.changes.at(next === -1 ? -1 : next - 1);
     }
 
-    /** Reads all clocks at the first reading at a place or after it. */
+    /** Reads all clocks at the first reading at a place or after it, as they are since a change. */
     readAll(asked) {
         let change = this.changeAt(asked), place = asked;
         if (this.stride > 1 && change.isQuiet)
@@ -184,7 +184,8 @@ export class Curves {
         if (later !== change) // within the last cycle before it
             [change, place, reading] = [later, later.there.place, later.reading];
         const snapshot = this.snapshotOf(change);
-        return { row: change.row, reading, isAsleep: change.isAsleep, place: Number(place),
+        return { row: change.row, since: change.reading, reading, isAsleep: change.isAsleep,
+            place: Number(place),
             times: [...CLOCKS.keys()].map(clock => this.timeOf(clock, snapshot, reading, place)) };
     }
 

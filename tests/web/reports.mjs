@@ -30,14 +30,16 @@ function lineOf({ clock, code, ...time }) {
     return `at,${clock},${timeText(time)}${utc}`;
 }
 
-/** Returns what the cursor shows at a place, and a script with the same reads. */
+/** Returns what the cursor shows at a place, and a script with the same reads. A read at the last change
+ * lets its second begin: from the record before it, the reading may be further than half the range. */
 function cursorAt(curves, records, first, place) {
-    const { row, reading, times, isAsleep, place: found } = curves.readAll(place);
+    const { row, since, reading, times, isAsleep, place: found } = curves.readAll(place);
     if (reading === null)
         return [];
     const before = ORIGIN.map(clock => `get,${first},${clock}`);
     const after = times.map(({ clock }) => `get,${reading},${clock}`);
-    const script = [records[0], ...before, ...records.slice(1, row), ...after].join('\n');
+    const script = [records[0], ...before, ...records.slice(1, row), `get,${since},monotonic`,
+        ...after].join('\n');
     return [{ script, lines: times.map(lineOf), place: found, isAsleep,
         asked: Number(place), ahead: times.map(({ clock, ahead }) => [clock, ahead]) }];
 }
