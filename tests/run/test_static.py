@@ -163,7 +163,7 @@ class Static(RunTest):
         run = self.start_held("pwrite64,process_vm_writev:delay_enter=1000ms", "--",
                               program("static_reused"))
         self.assertEqual(run.communicate("\n", 100)[0], "unwritten\n")
-        self.assertRegex((self.folder / "calls").read_text(), "DELAYED")
+        self.assertIn(b"DELAYED", (self.folder / "calls").read_bytes())
 
     @needs("strace")
     @needs_root("traces tkrun")
