@@ -3,8 +3,8 @@
     all.py [--all] [MODULE..]
 
 Without a module, it runs the quick ones, and with --all those of servers and 2,000 kills too. The
-test of chronyd, which waits for a minute, and the suites of others run next to the rest. No test is
-run twice: each holds on a busy machine too.
+test of chronyd, which waits for a minute, the suites of others, and the tests that wait longest run
+next to the rest. No test is run twice: each holds on a busy machine too.
 """
 import pathlib
 import subprocess
@@ -12,7 +12,8 @@ import sys
 import unittest
 
 FOLDER = pathlib.Path(__file__).parent
-BESIDE = [["test_chrony"], ["test_kernel", "test_python", "test_faketime"]]
+BESIDE = [["test_chrony"], ["test_kernel", "test_python", "test_faketime"],
+          ["test_masks", "test_waits"], ["test_nodes", "test_node_events"]]
 LONG = ["test_postgresql", "test_redis", "test_nginx", "test_many_kills"]
 
 
