@@ -18,7 +18,7 @@ struct pace pace_of(long double factor);
 /* Returns the cycles when the common counter is `common`. */
 uint64_t pace_cycles(const struct pace *pace, uint64_t common);
 
-/* Returns the first value of the common counter at which there are so many cycles. */
+/* Returns the first value of the common counter at which there are this number of cycles. */
 uint64_t pace_common(const struct pace *pace, uint64_t cycles);
 
 #endif

@@ -2,7 +2,7 @@
 /*
  * Makes waits of a futex whose clock the operation chooses, with FUTEX_CLOCK_REALTIME. Prints
  * each that doesn't return what it returns without the C library. Then lets a wake end waits of one
- * process and of several: the kernel finds a wait only by a wake of its own kind.
+ * process and of several: the kernel finds a wait only by a wake of the same kind.
  */
 #define _GNU_SOURCE
 #include "faults.h"

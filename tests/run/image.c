@@ -97,7 +97,7 @@ static void begin(void)
 	publish(0, false);
 }
 
-/* Checks that a clock has the time of the last publication, after so many readings. */
+/* Checks that a clock has the time of the last publication, after `count` readings. */
 static void check_line(clockid_t clock, int count)
 {
 	struct timespec now = { -1, -1 };
@@ -108,7 +108,7 @@ static void check_line(clockid_t clock, int count)
 	CHECK(readings == count);
 }
 
-/* Checks that tkrun answers, after so many readings. */
+/* Checks that tkrun answers, after `count` readings. */
 static void check_asked(clockid_t clock, int count)
 {
 	struct timespec now = { -1, -1 };

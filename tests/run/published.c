@@ -2,7 +2,7 @@
 /*
  * Sets REALTIME at each moment at which a read of it reads the host's clock. The read has loaded
  * the old clocks by then, and reads its counter after the new ones were published, so it must
- * return a time of the new ones. This program's own function stands in the vDSO's head in place of
+ * return a time of the new ones. A function of this program stands in the vDSO's head in place of
  * the kernel's, before the library looks there. Prints what is wrong, or that there is no function
  * to replace.
  */
