@@ -14,7 +14,7 @@ ghost use Rattle.tk_c.specs.Steps.{step_refusal, IsStored, IsStepped};
 
 use crate::code::Code;
 use crate::storage::TimeStorage;
-use tk_clock::{ClockId, Refusal, Snapshot, Timespec};
+use tk_clock::{ClockId, Refusal, Snapshot, Timespec, time_moved};
 use tk_counter::NANOS_PER_SECOND;
 
 /// The end of the times that REALTIME may be set to, in ns (`TIME_SETTOD_SEC_MAX`).
@@ -140,31 +140,13 @@ fn settable(monotonic: u64, real: u64, by: Timespec) -> Option<u64>
         (λ nanos. (pos nanos ≡ after) × (pos monotonic ≤ℤ after)
         × (after <ℤ pos (settable_end * 10 ^ 9))) }
 {
-    let Some(after) = moved(real, by) else {
+    let Some(after) = time_moved(real, by) else {
         return None;
     };
     if after < monotonic || after >= SETTABLE_LIMIT {
         return None;
     }
     Some(after)
-}
-
-/// Returns a time in ns, moved by an amount, or `None` if the result is below 0 or doesn't fit in 64
-/// bits.
-fn moved(real: u64, by: Timespec) -> Option<u64>
-    requires { real < (clock_end + monotonic_end) * 10 ^ 9 }
-    ensures { let moved = pos real +ℤ nanoseconds by in
-        MatchOption result
-        ((moved <ℤ pos 0) ⊎ (pos (2 ^ 64) ≤ℤ moved))
-        (λ nanos. pos nanos ≡ moved) }
-{
-    let upward = real + u64::from(by.nsec);
-    let whole = by.sec.unsigned_abs().checked_mul(NANOS_PER_SECOND)?;
-    if by.sec < 0 {
-        upward.checked_sub(whole)
-    } else {
-        upward.checked_add(whole)
-    }
 }
 
 /// Runs the tests of a step that don't depend on a clock's value.
