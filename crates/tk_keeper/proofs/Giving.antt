@@ -55,4 +55,3 @@ reserved count before after (Err refusal) e same answer =
     let room = room-of count before e in
     subst (λ r. IsShort count after r) (sym answer.0)
     (IsOut (subst (λ j. has_room count j ≡ true) (sym same) e) (omega (arith, room.0, answer.1)))
-
