@@ -7,7 +7,7 @@ use crate::refusal::Refusal;
 ///
 /// Whoever steers clocks gives each command here once, and need not know who records it.
 pub trait Clocks {
-    ghost use Rattle.std.specs.Prelude.{◌≡◌, ◌+◌, ◌≤◌, ℕ, List, [], ◌∷◌, ◌++◌, MatchResult, Some, None};
+    ghost use Rattle.std.specs.Prelude.{◌≡◌, ◌+◌, ◌≤◌, ℕ, List, [], ◌∷◌, ◌++◌, ◌↔◌, IsTrue, MatchResult, Some, None};
     ghost use Rattle.tk_clock.specs.declared.command.Entry.{Entry};
     ghost use Rattle.tk_clock.specs.declared.refusal.Refusal.{Refusal};
     ghost use Rattle.tk_clock.specs.Refusal.{state_refusal};
@@ -28,6 +28,11 @@ pub trait Clocks {
     /// Returns the clocks.
     fn clock(&self) -> &Clock
         ensures { result.now ≡ state self.now };
+
+    /// Returns whether there is room for `count` more entries, at most 6.
+    fn is_ready(&self, count: usize) -> bool
+        requires { count ≤ 6 }
+        ensures { IsTrue result ↔ has_room count self.now };
 
     /// Makes room for `count` more entries, at most 6. The clocks and their entries stay.
     ///
@@ -90,6 +95,11 @@ impl Clocks for Clock {
     #[inline(always)]
     fn clock(&self) -> &Clock {
         self
+    }
+
+    #[inline(always)]
+    fn is_ready(&self, _count: usize) -> bool {
+        true
     }
 
     #[inline(always)]

@@ -1,5 +1,5 @@
 //! Takes commands from whoever steers the clocks.
-ghost use Rattle.std.specs.Prelude.{◌≡◌, ◌≤◌, MatchResult, true};
+ghost use Rattle.std.specs.Prelude.{◌≡◌, ◌≤◌, MatchResult};
 ghost use Rattle.tk_keeper.specs.Room.{HasRoom, IsShort, has_room};
 
 use super::{LISTED_LIMIT, Timekeeper};
@@ -32,6 +32,11 @@ impl<A: Allocator + Copy> Clocks for Timekeeper<A> {
     }
 
     #[inline(always)]
+    fn is_ready(&self, count: usize) -> bool {
+        self.fits(count) && self.spare() >= count
+    }
+
+    #[inline(always)]
     fn ready(&mut self, count: usize) -> Result<(), Refusal> {
         if self.is_ready(count) {
             return Ok(());
@@ -49,15 +54,6 @@ impl<A: Allocator + Copy> Clocks for Timekeeper<A> {
 }
 
 impl<A: Allocator + Copy> Timekeeper<A> {
-    /// Returns whether this many more entries fit the journal and the reserved memory.
-    #[inline(always)]
-    fn is_ready(&self, count: usize) -> bool
-        requires { count ≤ 6 }
-        ensures { result ≡ true → HasRoom count self.now }
-    {
-        self.fits(count) && self.spare() >= count
-    }
-
     /// Reserves memory for `count` more entries.
     ///
     /// # Errors
