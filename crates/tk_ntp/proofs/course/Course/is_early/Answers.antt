@@ -7,10 +7,11 @@ use Rattle.tk_clock.specs.Read.{read_of}
 use Rattle.tk_clock.specs.Reach.{distance}
 use Rattle.tk_clock.specs.Snapshot.{Snapshot}
 use Rattle.tk_counter.specs.Counter.{Counter, gap, half}
+use Rattle.tk_ntp.specs.Course.{Course, seen}
 use Rattle.tk_ntp.specs.Staged.{IsEarly}
 use Rattle.tk_ntp.specs.SteeredClock.{SteeredClock}
 use Rattle.tk_ntp.proofs.Due.{none_due}
-use Rattle.tk_ntp.proofs.steered_clock.SteeredClock.is_early.Goals as goal
+use Rattle.tk_ntp.proofs.course.Course.is_early.Goals as goal
 
 never : false ≡ true → ⊥
 never h = cc
@@ -73,7 +74,7 @@ returns-then-asleep-clause-exact c = (
 
 pub returns-then-is_behind-clause-exact : goal.returns-then-is_behind-clause-exact
 returns-then-is_behind-clause-exact c =
-    let base = c.args.self.now.clock.base in
+    let base = c.args.clock.now.base in
     let counter = ap (λ (s : Snapshot). s.base.counter) c.snapshot-now.ensures in (
       λ h. absurd (never h),
       λ early. absurd
@@ -87,12 +88,12 @@ returns-then-is_behind-clause-exact c =
 
 pub returns-in-Ok-clause-exact : goal.returns-in-Ok-clause-exact
 returns-in-Ok-clause-exact c =
-    let base = c.args.self.now.clock.base in
+    let base = c.args.clock.now.base in
     let now = c.snapshot-now.ensures in
     let counter = ap (λ (s : Snapshot). s.base.counter) now in
-    subst (λ (s : SteeredClock). IsTrue (nat_lt c.in-Ok.nanos (s.next * 1000000000))
-    ↔ IsEarly c.args.self.now c.args.reading) (sym c.self.view_is)
-    (read-early c.args.self.now c.args.reading c.in-Ok.nanos
+    subst (λ (a : Course). IsTrue (nat_lt c.in-Ok.nanos (a.next * 1000000000))
+    ↔ IsEarly (seen c.args.clock.now c.args.self.now) c.args.reading) (sym c.self.view_is)
+    (read-early (seen c.args.clock.now c.args.self.now) c.args.reading c.in-Ok.nanos
     (sym (ap (λ (s : Snapshot). s.base.asleep) now) ∙ sym c.asleep.ensures ∙ c.if-asleep.false)
     (at_most (half c.desc.result) (half base.counter) c.gap.result (distance base c.args.reading)
     (ap half (c.desc.ensures ∙ counter))
@@ -106,7 +107,7 @@ returns-in-Ok-clause-exact c =
 
 pub returns-in-Ok-clause-none : goal.returns-in-Ok-clause-none
 returns-in-Ok-clause-none c = λ test.
-    none_due c.args.self.now c.args.reading ((returns-in-Ok-clause-exact c).0 test)
+    none_due (seen c.args.clock.now c.args.self.now) c.args.reading ((returns-in-Ok-clause-exact c).0 test)
 
 pub returns-in-Err-clause-exact : goal.returns-in-Err-clause-exact
 returns-in-Err-clause-exact c = (

@@ -7,7 +7,7 @@ use Rattle.tk_clock.specs.Read.{read_of}
 use Rattle.tk_clock.specs.Snapshot.{Snapshot}
 use Rattle.tk_clock.specs.State.{base_value, base_monotonic}
 use Rattle.tk_ntp.proofs.Restart.{real_read, next_low}
-use Rattle.tk_ntp.proofs.steered_clock.commanding.second_after.Goals as goal
+use Rattle.tk_ntp.proofs.course.commanding.second_after.Goals as goal
 
 never : (nanos : ℕ) (error : ReadError) (result : Result ℕ ReadError) → result ≡ Ok nanos →
     result ≡ Err error → ⊥
@@ -19,7 +19,7 @@ same nanos nanos' result is is' = cc
 
 pub unreachable-requires : goal.unreachable-requires
 unreachable-requires c =
-    let base = c.args.clock.base in
+    let base = c.args.clock.now.base in
     never (unsigned_abs (base_value base Realtime base.last)) c.in-Err.field-0 c.nanos.result
     (c.nanos.ensures
     ∙ ap (λ (s : Snapshot). read_of s.base RealtimeCoarse c.args.reading) c.snapshot-now.ensures
@@ -28,7 +28,7 @@ unreachable-requires c =
 
 pub returns-clause-value : goal.returns-clause-value
 returns-clause-value c =
-    let base = c.args.clock.base in
+    let base = c.args.clock.now.base in
     ap (λ nanos. nanos / 10 ^ 9 + 1)
     (same (unsigned_abs (base_value base Realtime base.last)) c.in-Ok.nanos c.nanos.result
     (c.nanos.ensures
@@ -38,7 +38,7 @@ returns-clause-value c =
 
 pub returns-clause-low : goal.returns-clause-low
 returns-clause-low c =
-    let base = c.args.clock.base in
+    let base = c.args.clock.now.base in
     subst (λ n. n ≤ clock_end) (sym (returns-clause-value c))
     (next_low (base_monotonic base base.last) c.real_offset.result base.real_offset
     (c.real_offset.ensures
