@@ -17,6 +17,7 @@ pub mod Marked
 pub mod Needed
 pub mod Long
 pub mod Keeping
+pub mod Early
 pub mod SeenBy
 pub mod Alone
 pub mod Laws

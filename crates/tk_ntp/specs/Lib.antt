@@ -29,6 +29,7 @@ pub mod Late
 pub mod Course
 pub mod Entries
 pub mod Keeping
+pub mod Early
 pub mod Followed
 pub mod Numbers
 pub mod Restored

@@ -8,6 +8,7 @@ ghost use Rattle.tk_clock.specs.State.{State};
 ghost use Rattle.tk_ntp.specs.Asked.{second_after, after_command, restarted};
 ghost use Rattle.tk_ntp.specs.Course.{seen};
 ghost use Rattle.tk_ntp.specs.Entries.{entries_after, restart_entries};
+ghost use Rattle.tk_ntp.specs.Staged.{IsSettled};
 ghost use Rattle.tk_ntp.specs.Keeping.{IsAppliedTo, IsCommandedTo, IsDirectTo, IsFollowedTo, IsPlainTo};
 
 use super::Course;
@@ -72,9 +73,32 @@ impl Course {
             clocks.old self.old result clocks.new self.new }
     {
         if self.is_settled(clocks.clock(), reading) && clocks.is_ready(SECOND_ENTRIES_LIMIT) {
-            return self.update(clocks, who, reading);
+            return self.apply_settled(clocks, who, reading);
         }
         self.apply_awake(clocks, who, reading, Command::Update)
+    }
+
+    /// Applies an update at a reading up to which no second is due, and that is not behind the last
+    /// account. There is room for the entries of a second.
+    ///
+    /// # Errors
+    ///
+    /// The errors of `Clock::apply`. Nothing changes then.
+    #[inline(always)]
+    pub fn apply_settled<C: Clocks>(
+        &mut self,
+        clocks: &mut C,
+        who: u32,
+        reading: u64,
+    ) -> Result<(), Refusal>
+        requires settled { IsSettled (seen (C.state clocks.old) self.old) reading }
+        requires room { C.has_room 3 clocks.old }
+        ensures { IsCommandedTo C.state C.is_after C.has_room C.is_short who reading Update
+            clocks.old self.old result clocks.new self.new }
+    {
+        give(clocks, who, reading, Command::Update)?;
+        self.account(clocks.clock(), reading);
+        Ok(())
     }
 
     /// Applies a command after the seconds up to its reading have begun.
@@ -123,18 +147,6 @@ impl Course {
         let now = clocks.clock().snapshot(0);
         give(clocks, who, reading, cmd)?;
         self.follow(clocks, who, reading, cmd, now.desc(), now.mult());
-        Ok(())
-    }
-
-    /// Applies an update, for whose entry there is room.
-    #[inline(always)]
-    fn update<C: Clocks>(&mut self, clocks: &mut C, who: u32, reading: u64) -> Result<(), Refusal>
-        requires room { C.has_room 3 clocks.old }
-        ensures { IsCommandedTo C.state C.is_after C.has_room C.is_short who reading Update
-            clocks.old self.old result clocks.new self.new }
-    {
-        give(clocks, who, reading, Command::Update)?;
-        self.account(clocks.clock(), reading);
         Ok(())
     }
 

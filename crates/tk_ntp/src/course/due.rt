@@ -6,6 +6,7 @@ ghost use Rattle.tk_clock.specs.Reach.{IsFirstReached, IsNeverReached};
 ghost use Rattle.tk_clock.specs.Time.{nanoseconds};
 ghost use Rattle.tk_ntp.specs.Advance.{second_time, IsDue, IsNoneDue};
 ghost use Rattle.tk_ntp.specs.Course.{seen};
+ghost use Rattle.tk_ntp.specs.Early.{IsEarlyFor};
 ghost use Rattle.tk_ntp.specs.Staged.{IsEarly, IsInOrder, IsSettled};
 ghost use Rattle.tk_ntp.specs.SteeredClock.{reading_refusal};
 
@@ -32,7 +33,7 @@ impl Course {
     /// at `reading`, which is behind neither the last command nor the last account. No reading is
     /// searched for.
     #[inline(always)]
-    pub(crate) fn is_settled(&self, clock: &Clock, reading: u64) -> bool
+    pub fn is_settled(&self, clock: &Clock, reading: u64) -> bool
         ensures exact { let steered = seen clock.now self.now in
             IsTrue result ↔ (IsEarly steered reading × IsInOrder steered reading) }
         ensures settled { result ≡ true → IsSettled (seen clock.now self.now) reading }
@@ -104,6 +105,18 @@ impl Course {
         clock
             .snapshot(0)
             .reading_at(ClockId::Realtime, self.next_time())
+    }
+
+    /// Returns a number of cycles: no second is due at readings that are fewer cycles after the last
+    /// one. They are those to the beginning of the next second, or one more than the longest gap.
+    pub fn cycles_to_second(&self, clock: &Clock) -> u64
+        ensures { IsEarlyFor result (seen clock.now self.now) }
+    {
+        let now = clock.snapshot(0);
+        match self.next_second(clock) {
+            Some(at) => now.desc().gap(now.last(), at),
+            None => now.desc().half() + 1,
+        }
     }
 
     /// Returns the beginning of the second of REALTIME that begins next, as a time.

@@ -11,7 +11,7 @@ returns-then-is_ready g c =
     let a = c.args.clocks.now in
     let before = c.args.self.now in
     followed kept.state kept.is_after kept.has_room kept.is_short g.met.C.Clocks.stays c.args.who
-    c.args.reading a before c.update.result c.update.new.clocks c.update.new.self
+    c.args.reading a before c.apply_settled.result c.apply_settled.new.clocks c.apply_settled.new.self
     (subst (λ (k : State). IsSettled (seen k before) c.args.reading) c.clock.ensures
     (c.is_settled.ensures.settled c.if-is_settled.true))
-    (c.if-is_ready.ensures.0 refl) c.update.ensures
+    (c.if-is_ready.ensures.0 refl) c.apply_settled.ensures
