@@ -1,6 +1,6 @@
 -- What calls to whatever keeps the clocks do to clocks with their discipline.
 use Rattle.std.proofs.Common.{◌≡◌, ◌∙◌, ap, subst, ℕ, Bool, false, inl, inr, List}
-use Rattle.std.specs.Prelude.{⊤, ◌⊎◌, Option, Some, None, Result, Ok, Err, MatchOption, MatchResult}
+use Rattle.std.specs.Prelude.{⊤, Option, Some, None, Result, Ok, Err, MatchOption, IfOk}
 use Rattle.tk_clock.specs.declared.command.Command.{Command}
 use Rattle.tk_clock.specs.declared.command.Entry.{Entry}
 use Rattle.tk_clock.specs.declared.refusal.Refusal.{Refusal}
@@ -13,7 +13,7 @@ use Rattle.tk_ntp.specs.Applied.{IsApplied, IsFollowed, IsPlain, request_of, wit
 use Rattle.tk_ntp.specs.Asked.{IsAnswered, IsAsked, IsCommanded, IsRequested, first_fault, step_refusal, stepped}
 use Rattle.tk_ntp.specs.Course.{Course, seen}
 use Rattle.tk_ntp.specs.Entries.{second_begun}
-use Rattle.tk_ntp.specs.Keeping.{Begins, HasArrived, HasBegun, IsAnsweredTo, IsAskedTo, IsCommandedTo, IsDirectTo, IsFollowedTo, IsFollowing, IsReady, IsRequestedTo, IsSteppedTo, IsUnmade, Still, request_most, second_most}
+use Rattle.tk_ntp.specs.Keeping.{Begins, HasArrived, HasArrivedOr, HasBegun, IsAdvancedTo, IsAnsweredTo, IsAskedTo, IsCommandedTo, IsDirectTo, IsFollowedTo, IsFollowing, IsReady, IsRequestedTo, IsSteppedTo, IsUnmade, Still, request_most, second_most}
 use Rattle.tk_ntp.specs.Request.{step_of}
 use Rattle.tk_ntp.specs.SteeredClock.{SteeredClock, reading_refusal}
 
@@ -87,3 +87,26 @@ module _ {X : Type 0} (state : X → State) (is_after : X → List Entry → X �
   commanded who reading cmd x ready before result b after room h =
       subst (λ (k : State).
       IsCommanded reading cmd (seen k before) result (seen (state b) after)) room.same h.answer
+
+  arrived-by : (refused : Option Refusal) (is_late : Bool) (who reading : ℕ) (a : X)
+      (before : Course) (result : Result ⊤ Refusal) (b : X) (after : Course) →
+      MatchOption refused
+      (HasArrivedOr state is_after has_room is_short is_late who reading a before result b after)
+      (λ r. (result ≡ Err r) × (b ≡ a) × (after ≡ before)) →
+      IfOk result (λ _. IsAdvancedBy (second_begun is_late reading) reading (seen (state a) before)
+      (seen (state b) after))
+  arrived-by None is_late who reading a before (Ok done) b after h =
+      advanced is_late who reading a before b after h
+  arrived-by None is_late who reading a before (Err refusal) b after h = tt
+  arrived-by (Some r) is_late who reading a before (Ok done) b after h = absurd (cc h.0)
+  arrived-by (Some r) is_late who reading a before (Err refusal) b after h = tt
+
+  -- the clocks are those that the seconds leave, if all of these could begin
+  pub arrived : (is_late : Bool) (who reading : ℕ) (a : X) (before : Course)
+      (result : Result ⊤ Refusal) (b : X) (after : Course) →
+      IsAdvancedTo state is_after has_room is_short is_late who reading a before result b after →
+      IfOk result (λ _. IsAdvancedBy (second_begun is_late reading) reading (seen (state a) before)
+      (seen (state b) after))
+  arrived is_late who reading a before result b after =
+      arrived-by (reading_refusal reading (seen (state a) before)) is_late who reading a before
+      result b after
