@@ -1,3 +1,4 @@
 pub mod Numbered
+pub mod Answered
 pub mod Continued
 pub mod Settled

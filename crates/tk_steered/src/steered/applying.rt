@@ -1,10 +1,12 @@
 //! Answers requests, and applies commands.
-ghost use Rattle.std.specs.Prelude.{◌≡◌, false};
+ghost use Rattle.std.specs.Prelude.{◌≡◌, IfOk, Ok};
 ghost use Rattle.tk_clock.specs.declared.command.Command.TheVariants.{Update};
 ghost use Rattle.tk_clock.specs.Journal.{accepted_count};
 ghost use Rattle.tk_clock.specs.Reach.{distance};
 ghost use Rattle.tk_keeper.specs.Room.{keeper_state};
-ghost use Rattle.tk_steered.specs.Kept.{IsAnsweredBy, IsAppliedBy, IsObeyed, numbered};
+ghost use Rattle.tk_ntp.specs.Applied.{IsApplied};
+ghost use Rattle.tk_ntp.specs.Asked.{IsAnswered};
+ghost use Rattle.tk_steered.specs.Kept.{IsAnsweredBy, IsAppliedBy, IsObeyed, numbered, steered_of};
 
 use super::Steered;
 use std::alloc::Allocator;
@@ -23,7 +25,10 @@ impl<A: Allocator + Copy> Steered<A> {
     /// - `Full`, `Memory`: the entries of a second or of the request can't be made. The seconds
     ///   before have begun.
     pub fn adjtimex(&mut self, who: u32, reading: u64, request: &Timex) -> Result<Reply, Refusal>
-        ensures { IsAnsweredBy who reading request.now self.old result self.new }
+        ensures answer { IsAnsweredBy who reading request.now self.old result self.new }
+        // the clocks are those that `SteeredClock::adjtimex` leaves
+        ensures clocks { IfOk result (λ reply. IsAnswered reading request.now
+            (steered_of self.old) (Ok reply) (steered_of self.new)) }
     {
         self.early = 0;
         self.course
@@ -41,7 +46,10 @@ impl<A: Allocator + Copy> Steered<A> {
     ///   before have begun.
     #[inline(always)]
     pub fn apply(&mut self, who: u32, reading: u64, cmd: Command) -> Result<u64, Refusal>
-        ensures { IsAppliedBy who reading cmd self.old result self.new }
+        ensures answer { IsAppliedBy who reading cmd self.old result self.new }
+        // the clocks are those that `SteeredClock::apply` leaves
+        ensures clocks { IfOk result (λ _. IsApplied reading cmd
+            (steered_of self.old) (Ok tt) (steered_of self.new)) }
     {
         if let Command::Update = cmd {
             let done = self.apply_update(who, reading);
