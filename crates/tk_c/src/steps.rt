@@ -70,6 +70,7 @@ fn stepped_late(snapshot: &Snapshot, reading: u64, by: Timespec) -> Result<(u64,
     requires early { let base = snapshot.now.base in
         early_refusal base.counter base.asleep base.last reading (Step by) ≡ None }
     requires low { reading ≤ mask snapshot.now.base.counter }
+    requires rest { by.nsec < 10 ^ 9 }
     ensures { let base = snapshot.now.base in
         MatchResult result
         (λ times. (step_refusal base reading by ≡ None)
@@ -96,6 +97,7 @@ fn stepped_within(
     requires value { pos monotonic ≡ base_value snapshot.now.base Monotonic reading }
     requires monotonic { base_value snapshot.now.base Monotonic reading <ℤ limit Monotonic }
     requires boottime { base_value snapshot.now.base Boottime reading <ℤ limit Boottime }
+    requires rest { by.nsec < 10 ^ 9 }
     ensures { let base = snapshot.now.base in
         MatchResult result
         (λ times. (step_refusal base reading by ≡ None)
@@ -133,7 +135,8 @@ fn monotonic_within(snapshot: &Snapshot, reading: u64) -> Result<u64, Refusal>
 /// Returns REALTIME after it is moved by an amount, in ns, or `None` if it is below MONOTONIC then,
 /// or at a time that may not be set.
 fn settable(monotonic: u64, real: u64, by: Timespec) -> Option<u64>
-    requires { real < (clock_end + monotonic_end) * 10 ^ 9 }
+    requires real { real < (clock_end + monotonic_end) * 10 ^ 9 }
+    requires rest { by.nsec < 10 ^ 9 }
     ensures { let after = pos real +ℤ nanoseconds by in
         MatchOption result
         ((after <ℤ pos monotonic) ⊎ (pos (settable_end * 10 ^ 9) ≤ℤ after))
@@ -155,7 +158,7 @@ fn test_early(snapshot: &Snapshot, reading: u64, by: Timespec) -> Result<(), Ref
     ensures { let base = snapshot.now.base in
         MatchResult result
         (λ _. (early_refusal base.counter base.asleep base.last reading (Step by) ≡ None)
-        × (reading ≤ mask base.counter))
+        × (reading ≤ mask base.counter) × (by.nsec < 10 ^ 9))
         (λ refusal. early_refusal base.counter base.asleep base.last reading (Step by)
         ≡ Some refusal) }
 {
