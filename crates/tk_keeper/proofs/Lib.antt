@@ -1,4 +1,3 @@
-pub mod Giving
 pub mod ChangeCounter
 pub mod Folding
 pub mod Items

@@ -1,4 +1,10 @@
-pub mod Numbered
-pub mod Answered
+pub mod Changes
+pub mod Leads
+pub mod Entries
+pub mod Lags
+pub mod Early
+pub mod Advances
+pub mod Folds
+pub mod Clocks
+pub mod Updates
 pub mod Continued
-pub mod Settled
