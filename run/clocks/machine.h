@@ -23,7 +23,7 @@
 #include <tkcore_page.h>
 
 enum {
-	MACHINE_LAYOUT = 0x746b7203,
+	MACHINE_LAYOUT = 0x746b7204,
 	WAITERS_MOST = 32768,
 };
 
@@ -129,6 +129,7 @@ struct rows {
 	uint64_t every;	     /* 0: no record */
 	_Atomic uint64_t reads; /* that were to be recorded */
 	uint64_t reads_most;
+	bool has_readers;    /* a row says who made each read */
 	atomic_bool is_steered; /* a call or a script has asked the discipline */
 	char path[4096];
 };
@@ -186,9 +187,21 @@ uint64_t machine_early_reading(const struct shared_page *shared);
 /* Returns the TSC, or MONOTONIC_RAW in ns. */
 uint64_t machine_host(enum counter_kind kind);
 
+/* The call that reads a clock. */
+enum read_call {
+	BY_CLOCK_GETTIME,
+	BY_GETTIMEOFDAY,
+	BY_TIME,
+	BY_TIMESPEC_GET,
+	BY_FTIME,
+	BY_WAIT,  /* a wait, a sleep or a timer, for its own time */
+	BY_STAMP, /* of a packet */
+	READ_CALLS,
+};
+
 /* Reads a clock now. Returns the codes of tkc_page_now. */
 enum tkc_code machine_read(struct machine *machine, uint32_t clock,
-			   struct tkc_time *out);
+			   struct tkc_time *out, enum read_call call);
 
 /* Returns the number of a clock that the machine answers for, or -1 if the
  * host does. */

@@ -109,7 +109,8 @@ SELDOM static enum tkc_code renew(struct machine *machine, struct kept *kept)
 
 SELDOM static void record_read(struct machine *machine, uint32_t clock,
 			enum tkc_code code, const struct kept *kept,
-			uint64_t reading, const struct tkc_time *time)
+			uint64_t reading, const struct tkc_time *time,
+			enum read_call call)
 {
 	struct record_row row = { .kind = ROW_READ + clock,
 				  .code = code,
@@ -125,7 +126,7 @@ SELDOM static void record_read(struct machine *machine, uint32_t clock,
 		row.number = time->sec;
 		row.nsec = time->nsec;
 	}
-	rows_add(machine, &row);
+	rows_add_read(machine, &row, call);
 }
 
 /* Counts a read, and returns whether it is to be recorded. */
@@ -155,7 +156,8 @@ SELDOM static uint64_t reading_of(const struct kept *kept)
 
 /* Reads a coarse clock, which needs no reading of the counter. */
 static enum tkc_code read_coarse(struct machine *machine, struct kept *kept,
-				 uint32_t clock, struct tkc_time *out)
+				 uint32_t clock, struct tkc_time *out,
+				 enum read_call call)
 {
 	const struct coarse *coarse = coarse_of(kept, clock);
 	enum tkc_code code;
@@ -169,12 +171,13 @@ static enum tkc_code read_coarse(struct machine *machine, struct kept *kept,
 	*out = coarse->time;
 	if (count_read(machine))
 		record_read(machine, clock, coarse->code, kept,
-			    reading_of(kept), out);
+			    reading_of(kept), out, call);
 	return coarse->code;
 }
 
 static enum tkc_code read_fine(struct machine *machine, struct kept *kept,
-			       uint32_t clock, struct tkc_time *out)
+			       uint32_t clock, struct tkc_time *out,
+			       enum read_call call)
 {
 	uint64_t reading;
 	enum tkc_code code = look(machine, kept, &reading);
@@ -183,40 +186,41 @@ static enum tkc_code read_fine(struct machine *machine, struct kept *kept,
 		return code;
 	code = get_kept(kept, clock, reading, out);
 	if (count_read(machine))
-		record_read(machine, clock, code, kept, reading, out);
+		record_read(machine, clock, code, kept, reading, out, call);
 	return code;
 }
 
 static inline enum tkc_code read_kept(struct machine *machine,
 				      struct kept *kept, uint32_t clock,
-				      struct tkc_time *out)
+				      struct tkc_time *out, enum read_call call)
 {
 	if (clock == TKC_CLOCK_REALTIME_COARSE ||
 	    clock == TKC_CLOCK_MONOTONIC_COARSE)
-		return read_coarse(machine, kept, clock, out);
-	return read_fine(machine, kept, clock, out);
+		return read_coarse(machine, kept, clock, out, call);
+	return read_fine(machine, kept, clock, out, call);
 }
 
 /* Reads in a signal handler that interrupted a read of its thread. */
 SELDOM static enum tkc_code read_in_handler(struct machine *machine,
 					    uint32_t clock,
-					    struct tkc_time *out)
+					    struct tkc_time *out,
+					    enum read_call call)
 {
 	struct kept kept = { .sequence = NO_SEQUENCE };
 
-	return read_kept(machine, &kept, clock, out);
+	return read_kept(machine, &kept, clock, out, call);
 }
 
 enum tkc_code machine_read(struct machine *machine, uint32_t clock,
-			   struct tkc_time *out)
+			   struct tkc_time *out, enum read_call call)
 {
 	enum tkc_code code;
 
 	if (is_kept_busy)
-		return read_in_handler(machine, clock, out);
+		return read_in_handler(machine, clock, out, call);
 	is_kept_busy = 1;
 	atomic_signal_fence(memory_order_seq_cst);
-	code = read_kept(machine, &own_kept, clock, out);
+	code = read_kept(machine, &own_kept, clock, out, call);
 	atomic_signal_fence(memory_order_seq_cst);
 	is_kept_busy = 0;
 	return code;

@@ -48,7 +48,7 @@ static struct timespec convert(struct machine *m, const struct timespec *stamp)
 	struct tkc_time now;
 	int64_t nanos;
 
-	if (machine_read(m, TKC_CLOCK_REALTIME, &now))
+	if (machine_read(m, TKC_CLOCK_REALTIME, &now, BY_STAMP))
 		return *stamp;
 	nanos = now.sec * NANOS + now.nsec -
 		(int64_t)((double)age * m->shared->speed);

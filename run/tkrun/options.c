@@ -31,6 +31,7 @@ static const char USAGE[] =
 	"  --record FILE             records all commands, and reads\n"
 	"  --every N                 records each Nth read of a thread (1)\n"
 	"  --reads N                 records at most N reads (10000000)\n"
+	"  --readers                 writes who made each read of the record\n"
 	"  --check                   replays the record by tkcore, and compares\n"
 	"  --deny-set                calls that set the clocks get EPERM\n"
 	"  --stamps                  converts the kernel's stamps of packets\n"
@@ -159,6 +160,7 @@ static enum counter_kind parse_counter(const char *text)
 static void set_flag(struct options *o, const char *name)
 {
 	o->is_checked |= !strcmp(name, "check");
+	o->has_readers |= !strcmp(name, "readers");
 	o->denies_set |= !strcmp(name, "deny-set");
 	o->has_stamps |= !strcmp(name, "stamps");
 	o->is_static |= !strcmp(name, "static");
@@ -236,6 +238,8 @@ void compare_options(const struct options *o)
 	if ((o->every != 1 || o->limits_reads) && !o->record && !o->is_checked)
 		fail(STATUS_WRONG, "--%s needs --record or --check",
 		     o->limits_reads ? "reads" : "every");
+	if (o->has_readers && !o->record)
+		fail(STATUS_WRONG, "--readers needs --record");
 	if (o->plan && !o->node_count && !o->name)
 		fail(STATUS_WRONG, "--plan needs --node");
 	if (o->counter == COUNTER_SLEEPS && !o->name &&
@@ -259,6 +263,7 @@ void parse_options(int count, char **words, struct options *options)
 		{ "lax", 0, 0, 0 },	  { "node", 1, 0, 0 },
 		{ "plan", 1, 0, 0 },	  { "help", 0, 0, 'h' },
 		{ "version", 0, 0, 'v' }, { "reads", 1, 0, 0 },
+		{ "readers", 0, 0, 0 },
 		{ 0, 0, 0, 0 },
 	};
 	int letter, index;

@@ -41,6 +41,7 @@ struct options {
 	uint64_t every;
 	uint64_t reads_most; /* in a record */
 	bool limits_reads;   /* --reads is there */
+	bool has_readers;    /* the record says who made each read */
 	bool is_checked, denies_set, has_stamps, is_quiet, is_static, is_lax;
 	char **program;
 	const char *name; /* of a node, or NULL */

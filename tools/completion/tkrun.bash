@@ -4,7 +4,7 @@ _tkrun()
 {
     local word=${COMP_WORDS[COMP_CWORD]} before=${COMP_WORDS[COMP_CWORD - 1]} at
     local options='--counter --hz --bits --maxsec --error-ppm --speed --start --ahead --uptime
-        --script --record --every --reads --check --deny-set --stamps --log --node --plan --lax
+        --script --record --every --reads --readers --check --deny-set --stamps --log --node --plan --lax
         --static --quiet --help --version --'
     for ((at = 1; at < COMP_CWORD; at++)); do
         if [ "${COMP_WORDS[at]}" = -- ]; then
