@@ -94,12 +94,19 @@ static void wait_a_little(void)
 	say("wait", "wait", CLOCK_MONOTONIC);
 }
 
-static void *read_all(void *unused)
+static void read_all(void)
 {
 	read_all_clocks();
 	read_by_names();
 	read_by_the_system();
 	wait_a_little();
+}
+
+/* A thread's own name isn't that of the program. */
+static void *read_all_named(void *unused)
+{
+	CHECK(!pthread_setname_np(pthread_self(), "other"));
+	read_all();
 	return unused;
 }
 
@@ -107,8 +114,8 @@ static void read_in_threads(void)
 {
 	pthread_t thread;
 
-	read_all(NULL);
-	CHECK(!pthread_create(&thread, NULL, read_all, NULL));
+	read_all();
+	CHECK(!pthread_create(&thread, NULL, read_all_named, NULL));
 	CHECK(!pthread_join(thread, NULL));
 }
 

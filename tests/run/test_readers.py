@@ -154,7 +154,8 @@ with open({str(rows)!r}, "r+b") as file:
     view = mmap.mmap(file.fileno(), 4000)
     ready = [at // 40 for at in range(0, len(view), 40) if view[at] and view[at + 4] >= 100]
 print(ready == list(range(ready[0], ready[-1] + 1)), len(ready) >= 9)"""
-        run = self.start(*STILL, "--record", self.folder / "r", "--", "/usr/bin/python3", "-c", code)
+        run = self.start(*STILL, "--record", self.folder / "r", "--", "/usr/bin/python3", "-c",
+                         code)
         self.assertEqual((run.returncode, run.stdout), (0, "True True\n"))
         self.assertFalse((self.folder / "r.readers").exists())
 
