@@ -91,6 +91,14 @@ class Readers(RunTest):
                 self.readers("--", name, word)
                 self.assertEqual({row[3] for row in self.lines(self.folder / "r")}, {shown})
 
+    def test_a_shorter_name_after_a_longer_one(self):
+        names = [self.folder / name for name in ("longer name", "short")]
+        for name in names:
+            shutil.copy(program("static_asked"), name)
+        self.readers("--", "bash", "-c", '"$1" static; "$2" static', "bash", *names)
+        lines = self.lines(self.folder / "r")
+        self.assertEqual({row[3] for row in lines} - {"bash"}, {"longer name", "short"})
+
     def test_a_script_has_its_own_name(self):
         script = self.file("script", "#!/usr/bin/perl\ntime;\n")
         script.chmod(script.stat().st_mode | stat.S_IXUSR)
