@@ -113,6 +113,39 @@ class Make(Case):
         self.assertEqual((2, "x86_64/tkcore.s: FAILED\n"), (status, said))
         self.assertIn("make: a text in release/ isn't the one that release/MANIFEST lists\n", errors)
 
+    def check_halves(self, library, run):
+        """Runs `make check` with other checks, which wait for each other. Returns what it does."""
+        self.make_library()
+        (self.top / "dist/bin/report").touch()
+        met = self.room / "met"
+        for name, status in (("check_c", library), ("check_run", run)):
+            path = self.top / "tools" / name
+            path.write_text(f"#!/bin/bash\necho {name} $*\n: >{met}.{name}\n"
+                            f"until [ -e {met}.check_c ] && [ -e {met}.check_run ]; do sleep 0.01; "
+                            f"done\necho {name} ends\nexit {status}\n", encoding="utf-8")
+            path.chmod(0o755)
+        (self.top / "dist/bin/tkcore").write_text("#!/bin/sh\n", encoding="utf-8")
+        (self.top / "dist/bin/tkcore").chmod(0o755)
+        status, said, errors = self.make("check")
+        self.assertEqual(["check_c --built dist\ncheck_c ends\n", "check_run\ncheck_run ends\n"],
+                         sorted(re.findall(r"(?:check_\w+.*\n){2}", said)))
+        for path in self.room.glob("met.*"):
+            path.unlink()
+        return status, errors
+
+    def test_both_halves_of_the_check_run_at_once(self):
+        self.assertEqual((0, ""), self.check_halves(0, 0))
+        for library, run in ((1, 0), (0, 1), (1, 1)):
+            status, errors = self.check_halves(library, run)
+            self.assertEqual(2, status)
+            self.assertIn("check-library] Error 1" if library else "check-run] Error 1", errors)
+
+    def test_without_the_program_the_library_is_checked(self):
+        self.make_library()
+        (self.top / "dist/bin/report").touch()
+        (self.top / "tools/check_c").write_text("#!/bin/sh\necho $*\n", encoding="utf-8")
+        self.assertEqual((0, "--built dist\n", ""), self.make("check"))
+
     def test_a_function_that_the_header_lacks_is_found(self):
         self.text.write_text(text() + ".text\n.globl tkc_more\ntkc_more: ret\n", encoding="utf-8")
         status, _, errors = self.make("dist/lib/libtkcore.a")
