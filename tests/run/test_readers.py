@@ -183,15 +183,17 @@ print(ready == list(range(ready[0], ready[-1] + 1)), len(ready) >= 9)"""
                 f"'{wrong[0]}' isn't who read there",
                 "tkrun: check: the readers don't fit the record"])
 
-    def spoiled(self, change, status):
-        """Checks a record whose readers a command has changed. Returns the lines on this."""
+    def spoiled(self, change, status, name="r"):
+        """Checks a record the readers of whose part a command has changed. Returns the lines on
+        this."""
         copy = self.share() / "bin"
         (copy / "tkcore").rename(copy / "real")
-        (copy / "tkcore").write_text(f"#!/bin/sh\n{change} {self.folder}/r.readers\n"
+        (copy / "tkcore").write_text(f"#!/bin/sh\n{change} {self.folder}/{name}.readers\n"
                                      f"exec {copy}/real \"$@\"\n")
         (copy / "tkcore").chmod(0o755)
         run = call([copy / "tkrun", "--quiet", *STILL, "--record", self.folder / "r", "--readers",
-                    "--check", "--", program("calls")], input="gettime 0\n" * 8)
+                    "--check", "--", program("calls")], input="gettime 0\n" * 200,
+                   env={**os.environ, "TKRUN_PART_BYTES": "2000"})
         self.assertEqual(run.returncode, status, run.stderr)
         shutil.rmtree(copy.parent)
         return run.stderr.splitlines()
@@ -209,8 +211,13 @@ print(ready == list(range(ready[0], ready[-1] + 1)), len(ready) >= 9)"""
                     self.assertRegex(line, f"^tkrun: {self.folder}/r\\.readers, record [0-9]+: "
                                            "'.*' isn't who read there$")
 
+    def test_readers_of_a_later_part_that_do_not_fit(self):
+        lines = self.spoiled("sed -i '$s/^/9/'", 3, "r.3")
+        self.assertRegex(lines[0], f"^tkrun: {self.folder}/r\\.3\\.readers, record [0-9]+: '9")
+        self.assertEqual(len(lines), 2)
+
     def test_the_first_wrong_readers_are_shown(self):
-        lines = self.spoiled("rm", 3)
+        lines = self.spoiled("rm -f", 3)
         self.assertEqual(lines[-1], "tkrun: check: the readers don't fit the record")
         self.assertEqual([re.sub(".*/", "", line) for line in lines[:-1]],
                          [f"r.readers, record {i}: '' isn't who read there" for i in range(2, 7)])

@@ -46,9 +46,13 @@ get,3000000000,tai
 """
 # enough reads for many programs, and for many processes for which REALTIME goes back
 MANY = OPEN + b"".join(b"get,%d,realtime\nstep,%d,-1,0\n" % (reading, reading) for reading in range(1000, 1150))
+# reads that state a value, though they have no place on the ideal line
+BEHIND = OPEN + b"update,1000000\n" + b"".join(
+    b"get,1,realtime,1800000000000000000\nget,%d,realtime\n" % reading for reading in range(2000000, 2000060))
 EDGES = [
     *[READS] * 4,  # (each fourth script is drawn)
     *[MANY] * 4,
+    *[BEHIND] * 4,
     MARKED,
     # the greatest front, and one more
     *(MARKED.replace(b",5,2597764268", b",%d,2597764268" % front) for front in (2**62, 2**62 + 1)),
