@@ -46,13 +46,15 @@ get,3000000000,tai
 """
 # enough reads for many programs, and for many processes for which REALTIME goes back
 MANY = OPEN + b"".join(b"get,%d,realtime\nstep,%d,-1,0\n" % (reading, reading) for reading in range(1000, 1150))
-# reads that state a value, though they have no place on the ideal line
-BEHIND = OPEN + b"update,1000000\n" + b"".join(
-    b"get,1,realtime,1800000000000000000\nget,%d,realtime\n" % reading for reading in range(2000000, 2000060))
+# reads that state a value, where BOOTTIME is past its end, so they have no place on the ideal line
+PLACELESS = OPEN + b"".join(
+    b"suspend,%d\nresume,%d,%d,0\nset,%d,5,0\n" % (reading, reading, sec, reading)
+    for reading, sec in enumerate([940_000_000] * 9 + [763_372_035])) + b"".join(
+    b"get,2000000000,realtime,1800000000000000000\nget,%d,realtime\n" % reading for reading in range(60))
 EDGES = [
     *[READS] * 4,  # (each fourth script is drawn)
     *[MANY] * 4,
-    *[BEHIND] * 4,
+    *[PLACELESS] * 4,
     MARKED,
     # the greatest front, and one more
     *(MARKED.replace(b",5,2597764268", b",%d,2597764268" % front) for front in (2**62, 2**62 + 1)),
@@ -282,7 +284,7 @@ def main():
     scripts += [compare.script(rng) for _ in range(given.scripts)]
     pairs += [(script, wanted_of(given, script)) for script in scripts]
     whose = {script: readers.made(rng, script) for script, (status, *_) in pairs
-             if status != 1 and is_plain(script) and rng.random() < 0.8}
+             if status != 1 and is_plain(script) and (script in EDGES or rng.random() < 0.8)}
     found = answers(given, [script for script, _ in pairs], whose)
     drawn = [(script, some) for (script, _), (*_, some) in zip(pairs, found) if some]
     cursors = [cursor for _, some in drawn for cursor in some["cursors"]]
