@@ -33,6 +33,7 @@ dist/bin/tkrun: dist/lib/libtkcore.a $(wildcard run/*/*)
 
 # both halves run at once, and what each prints stays together
 check: texts all
+	@echo "make: tests what is in dist/, and prints it at the end"
 	+@$(MAKE) --no-print-directory -j2 --output-sync=target check-library check-run
 
 check-library:

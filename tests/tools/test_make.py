@@ -144,7 +144,8 @@ class Make(Case):
         self.make_library()
         (self.top / "dist/bin/report").touch()
         (self.top / "tools/check_c").write_text("#!/bin/sh\necho $*\n", encoding="utf-8")
-        self.assertEqual((0, "--built dist\n", ""), self.make("check"))
+        begin = "make: tests what is in dist/, and prints it at the end\n"
+        self.assertEqual((0, f"{begin}--built dist\n", ""), self.make("check"))
 
     def test_a_function_that_the_header_lacks_is_found(self):
         self.text.write_text(text() + ".text\n.globl tkc_more\ntkc_more: ret\n", encoding="utf-8")
