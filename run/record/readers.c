@@ -143,7 +143,7 @@ static void show(const struct recording *recording, unsigned int part,
 		script, record, (int)strcspn(line, "\n"), line);
 }
 
-/* A line that is missing is an empty one. */
+/* A line that is missing is an empty one. Of the lines after the last read's, one is wrong enough. */
 static uint64_t check_lines(const struct recording *recording, unsigned int part,
 			    FILE *script, FILE *readers)
 {
@@ -159,10 +159,8 @@ static uint64_t check_lines(const struct recording *recording, unsigned int part
 		if (!is_line_of(line, number, record) && wrong++ < SHOWN_MOST)
 			show(recording, part, number, line);
 	}
-	while (readers && fgets(line, sizeof(line), readers)) {
-		if (wrong++ < SHOWN_MOST)
-			show(recording, part, number + 1, line);
-	}
+	if (readers && fgets(line, sizeof(line), readers) && wrong++ < SHOWN_MOST)
+		show(recording, part, number + 1, line);
 	return wrong;
 }
 

@@ -11,8 +11,8 @@ void readers_start(const struct recording *recording);
 /* Writes a file next to each script. Returns 0 or an errno. */
 int readers_write(const struct recording *recording);
 
-/* Reads the scripts and these files again. Returns the number of reads without their line and of
- * lines without their read, and prints the first of them. */
+/* Reads the scripts and these files again. Returns the number of reads without their line, and of
+ * files with more lines, and prints the first of them. */
 uint64_t readers_check(const struct recording *recording);
 
 #endif

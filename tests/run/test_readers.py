@@ -221,8 +221,15 @@ print(ready == list(range(ready[0], ready[-1] + 1)), len(ready) >= 9)"""
         self.assertEqual(lines[-1], "tkrun: check: the readers don't fit the record")
         self.assertEqual([re.sub(".*/", "", line) for line in lines[:-1]],
                          [f"r.readers, record {i}: '' isn't who read there" for i in range(2, 7)])
-        lines = self.spoiled("sed -i '$p;$p;$p;$p;$p;$p;$p'", 3)
-        self.assertEqual(len(lines), 6)
+        lines = self.spoiled("sed -i '$p;$p'", 3)
+        self.assertEqual(len(lines), 2)
+
+    def test_readers_without_end(self):
+        os.symlink("/dev/zero", self.folder / "r.readers")
+        run = self.readers("--", program("calls"), status=3)
+        self.assertRegex(run.stderr, f"\ntkrun: {self.folder}/r\\.readers, record [0-9]+: '' isn't "
+                                     "who read there\ntkrun: check: the readers don't fit the "
+                                     "record\n$")
 
     def test_readers_that_cannot_be_written(self):
         (self.folder / "s.readers").mkdir()

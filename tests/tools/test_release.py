@@ -18,6 +18,7 @@ LOADER = SourceFileLoader("release", str(TOP / "tools/release"))
 release = importlib.util.module_from_spec(importlib.util.spec_from_loader("release", LOADER))
 LOADER.exec_module(release)
 manifest, making, sources = release.manifest, release.making, release.sources
+SOURCES = dict(making.SOURCES)
 
 
 class Release(Case):
@@ -203,6 +204,18 @@ class Release(Case):
                               capture_output=True).stdout
         self.assertEqual(f"sources: {said.split()[0]} of {len(given)} files",
                          manifest.read(self.folder)["library"][2])
+
+    def test_the_sources_of_each_part(self):
+        for part, crate, has, lacks in [("library", "tk_c", "tools/c/text", "tools/c/module"),
+                                        ("program", "tkcore", "tools/c/text", "tools/c/module"),
+                                        ("module", "tk_c", "tools/c/module", "tools/c/text")]:
+            with self.subTest(part), mock.patch.dict(making.SOURCES, SOURCES):
+                names = making.sources_of(part)
+                self.assertIn(has, names)
+                self.assertNotIn(lacks, names)
+                crates = {name.split("/")[1] for name in names if name.startswith("crates/")}
+                below = {it.name for it in release.rattle.crates()[crate].below}
+                self.assertEqual({crate, *below}, crates)
 
     def git_tree(self, top, names):
         """Returns the id that git gives a tree of these files."""
