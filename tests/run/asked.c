@@ -4,14 +4,18 @@
  * for each read "PROCESS,THREAD,CALL,CLOCK".
  *
  *     asked library | static
+ *     asked signals
  *
- * Without the library, the C library's functions make the calls of the vDSO or of the system.
+ * Without the library, the C library's functions make the calls of the vDSO or of the system. With
+ * `signals`, it reads MONOTONIC by clock_gettime until a timer of its processor time has sent it 12
+ * signals, whose handler reads REALTIME by gettimeofday. It prints their number.
  */
 #define _GNU_SOURCE
 #include "faults.h"
 #include "vdso_functions.h"
 
 #include <pthread.h>
+#include <signal.h>
 #include <stdio.h>
 #include <sys/auxv.h>
 #include <sys/syscall.h>
@@ -119,11 +123,42 @@ static void read_in_threads(void)
 	CHECK(!pthread_join(thread, NULL));
 }
 
+enum { SIGNALS = 12 };
+
+static volatile sig_atomic_t handled;
+
+static void handle(int number)
+{
+	struct timeval micros;
+
+	(void)number;
+	gettimeofday(&micros, NULL);
+	handled++;
+}
+
+static void read_with_signals(void)
+{
+	const struct itimerval often = { { 0, 1000 }, { 0, 1000 } }, never = { 0 };
+	struct sigaction action = { .sa_handler = handle };
+	struct timespec now;
+
+	CHECK(!sigaction(SIGVTALRM, &action, NULL));
+	CHECK(!setitimer(ITIMER_VIRTUAL, &often, NULL));
+	while (handled < SIGNALS)
+		CHECK(!clock_gettime(CLOCK_MONOTONIC, &now));
+	CHECK(!setitimer(ITIMER_VIRTUAL, &never, NULL));
+	printf("%d\n", handled);
+}
+
 int main(int count, char **words)
 {
 	pid_t child;
 	int status;
 
+	if (count > 1 && !strcmp(words[1], "signals")) {
+		read_with_signals();
+		return faults != 0;
+	}
 	is_static = count > 1 && !strcmp(words[1], "static");
 	read_in_threads();
 	fflush(stdout);

@@ -61,6 +61,13 @@ class Readers(RunTest):
     def test_reads_without_the_library(self):
         self.reads_of("static_asked", "static")
 
+    def test_reads_in_handlers_of_signals(self):
+        # most of the signals come amid a read
+        run = self.readers("--", program("asked"), "signals")
+        made = [(row[2], row[4]) for row in self.lines(self.folder / "r")]
+        self.assertEqual(set(made), {("clock_gettime", "monotonic"), ("gettimeofday", "realtime")})
+        self.assertEqual(made.count(("gettimeofday", "realtime")), int(run.stdout))
+
     def test_sleeps_without_the_library(self):
         # at a signal, tkrun reads the clock for the rest of a sleep
         self.readers(*STILL, "--", program("static_interrupted"))
