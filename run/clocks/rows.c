@@ -154,11 +154,12 @@ void rows_add_read(struct machine *machine, const struct record_row *row,
 {
 	bool has_reader = machine->control->rows.has_readers;
 	struct record_row *slot = take_rows(machine, 1 + has_reader);
-	struct reader_row *next = (struct reader_row *)slot + 1;
+	struct reader_row *next;
 
 	if (!slot)
 		return;
 	if (has_reader) {
+		next = (struct reader_row *)slot + 1;
 		next->call = call;
 		next->reader = present_reader();
 	}
