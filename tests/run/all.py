@@ -3,9 +3,9 @@
     all.py [--all] [MODULE..]
 
 Without a module, it runs the quick ones, and with --all those of servers and 2,000 kills too. Each
-module runs in a process of its own, and somewhat more of them at once than there are processors,
-since many tests wait. What they print is printed in the order of their names. No test is run twice:
-each holds on a busy machine too.
+module runs in a process of its own, and one more of them at once than there are processors, since
+many tests wait. What they print is printed in the order of their names. No test is run twice: each
+holds on a busy machine too.
 """
 import os
 import pathlib
@@ -15,7 +15,7 @@ import unittest
 from concurrent import futures
 
 FOLDER = pathlib.Path(__file__).parent
-MORE = 2  # modules that run at once, beyond the number of processors
+MORE = 1  # modules that run at once, beyond the number of processors
 # the modules that take longest come first
 FIRST = ["test_kernel", "test_nodes", "test_waits", "test_masks", "test_python", "test_chrony",
          "test_check", "test_calls"]

@@ -121,8 +121,10 @@ class Make(Case):
         for name, status in (("check_c", library), ("check_run", run)):
             path = self.top / "tools" / name
             path.write_text(f"#!/bin/bash\necho {name} $*\n: >{met}.{name}\n"
-                            f"until [ -e {met}.check_c ] && [ -e {met}.check_run ]; do sleep 0.01; "
-                            f"done\necho {name} ends\nexit {status}\n", encoding="utf-8")
+                            f"for ((i = 0; i < 30000; i++)); do\n"
+                            f"[ -e {met}.check_c ] && [ -e {met}.check_run ] && break\n"
+                            f"sleep 0.01\ndone\n[ $i = 30000 ] || echo {name} ends\n"
+                            f"exit {status}\n", encoding="utf-8")
             path.chmod(0o755)
         (self.top / "dist/bin/tkcore").write_text("#!/bin/sh\n", encoding="utf-8")
         (self.top / "dist/bin/tkcore").chmod(0o755)
