@@ -8,14 +8,12 @@
 
 uint64_t true_nanos(const struct run *run)
 {
-	const struct node *first = run->nodes;
-	const struct shared_page *shared = first->machine.shared;
-	uint64_t cycles;
+	const struct shared_page *shared = run->nodes->machine.shared;
+	uint64_t common = shared->kind == COUNTER_SLEEPS
+				  ? run->elapsed
+				  : machine_host(shared->kind) - shared->base;
 
-	if (shared->kind == COUNTER_SLEEPS)
-		return run->elapsed;
-	cycles = pace_cycles(&first->pace, machine_host(shared->kind) - shared->base);
-	return (uint64_t)((long double)cycles * NANOS / first->plan.hz);
+	return pace_cycles(&run->truth, common);
 }
 
 /* Asks for a leap second at the end of the day, as a daemon does. */

@@ -7,6 +7,7 @@
 
 #include <errno.h>
 #include <fcntl.h>
+#include <math.h>
 #include <stdio.h>
 #include <stdlib.h>
 #include <string.h>
@@ -188,6 +189,18 @@ static void set_pace(struct node *node, bool is_alone)
 				    .shift = is_alone ? 0 : shared->scale_shift };
 }
 
+/* The true time is that of the program's counter. Without --node, nothing asks for it. */
+static void set_truth(struct run *run)
+{
+	const struct node *first = run->nodes;
+	const struct pace *pace = &first->pace;
+
+	run->truth = first->machine.shared->kind == COUNTER_SLEEPS
+			     ? pace_of(1)
+			     : pace_of(ldexpl((long double)pace->scale, -(int)pace->shift) *
+				       NANOS / first->plan.hz);
+}
+
 /* Makes the clocks of a node. All nodes count since the same moment of the host. */
 static void open_machine(const struct run *run, struct node *node, double host_hz)
 {
@@ -248,4 +261,5 @@ void open_machines(struct run *run)
 		tree->controls[tree->control_count++] =
 			run->nodes[i].machine.control;
 	}
+	set_truth(run);
 }

@@ -8,8 +8,9 @@
 #include <stdlib.h>
 #include <string.h>
 
-/* A record R has the file R.rows while the program runs, and R.nodes next to those of the nodes. */
-static const char *const RESERVED[] = { "rows", "nodes" };
+/* A record R has the file R.rows while the program runs, and R.nodes next to those of the nodes,
+ * which contains the true time by its name. */
+static const char *const RESERVED[] = { "rows", "nodes", TRUE_NAME };
 
 static const char *const OPTIONS[] = { "error-ppm", "start", "ahead", "uptime", "script",
 				       "hz",	    "bits",  "maxsec" };

@@ -18,6 +18,7 @@ static const char USAGE[] =
 	"usage: tkrun [OPTIONS] -- PROGRAM ARGS..\n"
 	"       tkrun node NAME -- PROGRAM ARGS..\n"
 	"       tkrun ctl NODE step|freq|suspend|leap [VALUE]\n"
+	"       tkrun merge RECORD\n"
 	"  --counter raw|tsc|sleeps  the counter (raw)\n"
 	"  --hz N, --bits N, --maxsec N\n"
 	"                            its description (1000000000 or the TSC's, 64, 1)\n"

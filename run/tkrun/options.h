@@ -21,6 +21,9 @@ enum { UPTIME_MOST = 946079999 };
 /* The most nodes, and the most bytes of a node's name. */
 enum { NODES_MOST = 64, NODE_NAME_MOST = 31 };
 
+/* The name of the true time in the file RECORD.nodes. */
+#define TRUE_NAME "true"
+
 /* How the name of a node's folder begins. */
 #define NODE_FOLDER "node."
 

@@ -10,6 +10,7 @@
 #include "tkrun.h"
 #include "processes/coverage.h"
 #include "processes/uncovered.h"
+#include "record/merge.h"
 
 #include <errno.h>
 #include <fcntl.h>
@@ -212,6 +213,7 @@ int main(int count, char **words)
 
 	enter_node(count, words);
 	control_node(count, words);
+	merge_records(count, words);
 	hold_standard_files();
 	parse_options(count, words, options);
 	read_plan(options);

@@ -34,6 +34,7 @@ struct run {
 	size_t count;
 	struct tree tree;
 	uint64_t elapsed; /* the common counter of sleeps: ns, or cycles if there is one node */
+	struct pace truth; /* ns of the true time, by the common counter */
 	uint64_t started, checked; /* the host's ns: the run, and its processes' clocks */
 	pid_t child; /* the program, or 0 when it has ended */
 	int status;
