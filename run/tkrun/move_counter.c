@@ -6,6 +6,8 @@
 #include <stdlib.h>
 #include <sys/syscall.h>
 
+enum { STEPS_MOST = 1000 }; /* until threads are looked at again */
+
 /* Returns the cycles until a waiter's time, or 0 if its thread is about to wait, or
  * the entry isn't this owner's any more. */
 static uint64_t waiter_left(struct node *node, const struct waiter *waiter,
@@ -215,6 +217,29 @@ static bool all_wait(struct run *run)
 	return !has_last;
 }
 
+/* Moves all counters, with their orders and the steps of their walks. */
+static void move_all(struct run *run, uint64_t common)
+{
+	run->elapsed = common;
+	for (size_t i = 0; i < run->count; i++)
+		move_node(&run->nodes[i], common);
+	wander_all_due(run);
+}
+
+/* Returns where the common counter moves to, or NEVER. At the steps of the nodes' walks before that,
+ * no thread's time comes, so the threads aren't looked at. The last step changes where it moves. */
+static uint64_t pass_steps(struct run *run)
+{
+	uint64_t common = find_next(run), step = before_wander(run, common);
+
+	for (int i = 0; i < STEPS_MOST && step < common; i++) {
+		move_all(run, step);
+		common = find_next(run);
+		step = before_wander(run, common);
+	}
+	return step;
+}
+
 bool move_counter(struct run *run)
 {
 	uint64_t common;
@@ -222,12 +247,10 @@ bool move_counter(struct run *run)
 	run->tree.has_filter = run->listener >= 0;
 	if (!all_wait(run) || (run->count > 1 && control_serve(run)))
 		return false;
-	common = find_next(run);
+	common = pass_steps(run);
 	if (common == NEVER)
 		return false;
-	run->elapsed = common;
-	for (size_t i = 0; i < run->count; i++)
-		move_node(&run->nodes[i], common);
+	move_all(run, common);
 	act_all_due(run);
 	for (size_t i = 0; i < run->count; i++) {
 		wake_reached(&run->nodes[i]);

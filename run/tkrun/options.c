@@ -65,8 +65,7 @@ void fail(int status, const char *form, ...)
 	exit(status);
 }
 
-/* Returns the number of an option's value. */
-static uint64_t whole(const char *option, const char *text, uint64_t least,
+uint64_t whole(const char *option, const char *text, uint64_t least,
 		      uint64_t most)
 {
 	unsigned long long value;
@@ -82,7 +81,7 @@ static uint64_t whole(const char *option, const char *text, uint64_t least,
 	return value;
 }
 
-static double decimal(const char *option, const char *text, double least,
+double decimal(const char *option, const char *text, double least,
 		      double most)
 {
 	char *end = NULL;
@@ -201,7 +200,7 @@ void parse_option(struct options *o, const char *name, const char *value)
 		o->plan = value;
 	else if (!strcmp(name, "node"))
 		add_node(o, value);
-	else
+	else if (!parse_node_option(o, name, value))
 		set_flag(o, name);
 	o->has_ahead |= !strcmp(name, "ahead");
 	o->has_uptime |= !strcmp(name, "uptime");

@@ -47,6 +47,8 @@ struct options {
 	bool is_checked, denies_set, has_stamps, is_quiet, is_static, is_lax;
 	char **program;
 	const char *name; /* of a node, or NULL */
+	double wander_ppm; /* of a node */
+	uint64_t seed;
 	const char *node_words[NODES_MOST];
 	size_t node_count;
 	struct options *nodes;
@@ -55,6 +57,13 @@ struct options {
 /* Parses the arguments. At a wrong one, ends tkrun with a sentence and
  * STATUS_WRONG. */
 void parse_options(int count, char **words, struct options *options);
+
+/* Return the number of an option's value, or end tkrun with a sentence. */
+uint64_t whole(const char *option, const char *text, uint64_t least, uint64_t most);
+double decimal(const char *option, const char *text, double least, double most);
+
+/* Parses an option that only nodes have. Returns false if it isn't one. */
+bool parse_node_option(struct options *options, const char *name, const char *value);
 
 /* Parses ".NSEC", of one to nine digits, or nothing. Returns what follows. */
 const char *parse_nsec(const char *text, uint32_t *nsec);

@@ -6,6 +6,7 @@
 #include "events.h"
 #include "pace.h"
 #include "signals.h"
+#include "wander.h"
 #include "processes/tree.h"
 #include "record/recording.h"
 #include "static/static.h"
@@ -20,6 +21,8 @@ struct node {
 	struct machine machine;
 	struct recording recording;
 	struct pace pace;
+	struct wander wander;
+	double error_ppm; /* of the counter, without its wander */
 	struct tree *tree; /* of the run */
 	struct idle *idles; /* by the place of a waiter */
 	char folder[PATH_MAX - 64];
@@ -79,6 +82,13 @@ enum tkc_code act(struct run *run, const struct event *event);
 
 /* Lets the events happen whose time has come, and prints refusals. */
 void act_all_due(struct run *run);
+
+/* Returns the next step of a node's walk before a value of the common counter, or that value. If it
+ * is NEVER, there is none: a walk doesn't move the counter. */
+uint64_t before_wander(const struct run *run, uint64_t common);
+
+/* Changes the errors of the counters whose step has come. */
+void wander_all_due(struct run *run);
 
 /* Opens the socket of `tkrun ctl`. The other answers a client. Returns whether there was one. */
 void control_open(const struct run *run);
