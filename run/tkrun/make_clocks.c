@@ -169,6 +169,7 @@ static void set_counter(struct node *node, double host_hz)
 				  options->counter == COUNTER_TSC
 			  ? (long double)speed
 			  : (long double)node->plan.hz * speed / host_hz);
+	shared->read_cost = (uint64_t)ceil((double)options->read_cost * node->plan.hz / NANOS);
 	shared->nanos_per_cycle = 1e9 / (node->plan.hz * speed);
 	shared->speed = speed;
 	half = (double)(shared->mask / 2) * shared->nanos_per_cycle;

@@ -2,16 +2,14 @@
 /* move_counter.c - moves a counter of sleeps, and wakes the threads whose time has come. */
 #define _GNU_SOURCE
 #include "idle.h"
+#include "moving.h"
 
 #include <stdlib.h>
 #include <sys/syscall.h>
 
-enum { STEPS_MOST = 1000 }; /* until threads are looked at again */
+enum { STEPS_MOST = 1000 }; /* of walks, until threads are looked at again */
 
-/* Returns the cycles until a waiter's time, or 0 if its thread is about to wait, or
- * the entry isn't this owner's any more. */
-static uint64_t waiter_left(struct node *node, const struct waiter *waiter,
-			    uint64_t owner)
+uint64_t waiter_left(struct node *node, const struct waiter *waiter, uint64_t owner)
 {
 	uint64_t left;
 
@@ -154,8 +152,7 @@ static bool wake_last(struct node *node)
 	return is_found;
 }
 
-/* Returns the common counter when a node's has moved by some cycles, or NEVER. */
-static uint64_t common_after(const struct node *node, uint64_t cycles)
+uint64_t common_after(const struct node *node, uint64_t cycles)
 {
 	if (cycles == NEVER)
 		return NEVER;
@@ -185,6 +182,15 @@ static uint64_t find_next(struct run *run)
 	return is_reached ? NEVER : least;
 }
 
+/* Reads may have moved a counter further, and move it meanwhile. */
+static void raise_cycles(_Atomic uint64_t *cycles, uint64_t least)
+{
+	uint64_t now = atomic_load(cycles);
+
+	while (now < least && !atomic_compare_exchange_weak(cycles, &now, least))
+		;
+}
+
 /* Moves a node's counter to the common one, and carries out its orders. */
 static void move_node(struct node *node, uint64_t common)
 {
@@ -193,7 +199,7 @@ static void move_node(struct node *node, uint64_t common)
 	sigset_t saved;
 
 	machine_lock(machine, &saved);
-	atomic_store(&machine->shared->cycles, pace_cycles(&node->pace, common));
+	raise_cycles(&machine->shared->cycles, pace_cycles(&node->pace, common));
 	plan_run(&node->plan, machine);
 	if (!machine_is_asleep(machine))
 		machine_apply(machine, &update, 1);
@@ -240,21 +246,30 @@ static uint64_t pass_steps(struct run *run)
 	return step;
 }
 
-bool move_counter(struct run *run)
+void move_and_wake(struct run *run, uint64_t common)
 {
-	uint64_t common;
-
-	run->tree.has_filter = run->listener >= 0;
-	if (!all_wait(run) || (run->count > 1 && control_serve(run)))
-		return false;
-	common = pass_steps(run);
-	if (common == NEVER)
-		return false;
 	move_all(run, common);
 	act_all_due(run);
 	for (size_t i = 0; i < run->count; i++) {
 		wake_reached(&run->nodes[i]);
 		machine_wake(&run->nodes[i].machine);
 	}
+}
+
+bool move_counter(struct run *run)
+{
+	uint64_t common;
+
+	run->tree.has_filter = run->listener >= 0;
+	if (!all_wait(run))
+		return follow_spin(run);
+	if (run->count > 1 && control_serve(run))
+		return false;
+	if (follow_reads(run))
+		return true;
+	common = pass_steps(run);
+	if (common == NEVER)
+		return false;
+	move_and_wake(run, common);
 	return true;
 }

@@ -22,6 +22,7 @@ static const char USAGE[] =
 	"  --counter raw|tsc|sleeps  the counter (raw)\n"
 	"  --hz N, --bits N, --maxsec N\n"
 	"                            its description (1000000000 or the TSC's, 64, 1)\n"
+	"  --read-cost NS            each read moves --counter sleeps by that much (0)\n"
 	"  --error-ppm X             it runs so much faster than described (0)\n"
 	"  --speed N                 it runs N times as fast as the host (1)\n"
 	"  --start TIME              REALTIME at the start: SEC[.NSEC] or\n"
@@ -200,6 +201,8 @@ void parse_option(struct options *o, const char *name, const char *value)
 		o->plan = value;
 	else if (!strcmp(name, "node"))
 		add_node(o, value);
+	else if (!strcmp(name, "read-cost"))
+		o->read_cost = whole(name, value, 0, NANOS);
 	else if (!parse_node_option(o, name, value))
 		set_flag(o, name);
 	o->has_ahead |= !strcmp(name, "ahead");
@@ -236,6 +239,8 @@ void compare_options(const struct options *o)
 	if ((o->every != 1 || o->limits_reads) && !o->record && !o->is_checked)
 		fail(STATUS_WRONG, "--%s needs --record or --check",
 		     o->limits_reads ? "reads" : "every");
+	if (o->read_cost && o->counter != COUNTER_SLEEPS)
+		fail(STATUS_WRONG, "--read-cost needs --counter sleeps");
 	if (o->plan && !o->node_count && !o->name)
 		fail(STATUS_WRONG, "--plan needs --node");
 	if (o->counter == COUNTER_SLEEPS && !o->name &&
@@ -259,6 +264,7 @@ void parse_options(int count, char **words, struct options *options)
 		{ "lax", 0, 0, 0 },	  { "node", 1, 0, 0 },
 		{ "plan", 1, 0, 0 },	  { "help", 0, 0, 'h' },
 		{ "version", 0, 0, 'v' }, { "reads", 1, 0, 0 },
+		{ "read-cost", 1, 0, 0 },
 		{ 0, 0, 0, 0 },
 	};
 	int letter, index;

@@ -43,6 +43,7 @@ struct options {
 	const char *script, *record, *log, *plan;
 	uint64_t every;
 	uint64_t reads_most; /* in a record */
+	uint64_t read_cost; /* ns by which a read moves a counter of sleeps */
 	bool limits_reads;   /* --reads is there */
 	bool is_checked, denies_set, has_stamps, is_quiet, is_static, is_lax;
 	char **program;
