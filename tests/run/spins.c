@@ -1,10 +1,11 @@
 /* SPDX-License-Identifier: MIT OR Apache-2.0 */
 /*
  * Waits by reading a clock in a loop. Prints the number of its reads after the first one, and the ns
- * from that to the last one.
+ * from that to the last one. It fails if the clock goes back.
  *
- *     spins CLOCK NANOS          until so many ns have passed
- *     spins CLOCK NANOS SLEEP    or until another thread has slept for SLEEP ns of MONOTONIC
+ *     spins CLOCK NANOS                until so many ns have passed
+ *     spins CLOCK NANOS SLEEP TIMES    or until another thread has slept TIMES times for SLEEP ns of
+ *                                      MONOTONIC
  */
 #define _GNU_SOURCE
 #include <pthread.h>
@@ -26,12 +27,14 @@ static long long nanos_of(clockid_t clock)
 	return time.tv_sec * NANOS + time.tv_nsec;
 }
 
-static void *sleep_for(void *text)
+static void *sleep_often(void *argument)
 {
-	long long nanos = atoll(text);
+	char **words = argument;
+	long long nanos = atoll(words[0]);
 	struct timespec span = { nanos / NANOS, nanos % NANOS };
 
-	nanosleep(&span, NULL);
+	for (int i = atoi(words[1]); i > 0; i--)
+		nanosleep(&span, NULL);
 	atomic_store(&has_slept, true);
 	return NULL;
 }
@@ -39,17 +42,20 @@ static void *sleep_for(void *text)
 int main(int count, char **words)
 {
 	clockid_t clock = atoi(words[1]);
-	long long most = atoll(words[2]), reads = 0, start, now;
+	long long most = atoll(words[2]), reads = 0, start, now, last;
 	pthread_t thread;
 
-	if (count > 3 && pthread_create(&thread, NULL, sleep_for, words[3]))
+	if (count > 4 && pthread_create(&thread, NULL, sleep_often, words + 3))
 		return EXIT_FAILURE;
 	start = now = nanos_of(clock);
 	while (now - start < most && !atomic_load(&has_slept)) {
+		last = now;
 		now = nanos_of(clock);
+		if (now < last)
+			return EXIT_FAILURE;
 		reads++;
 	}
-	if (count > 3)
+	if (count > 4)
 		pthread_join(thread, NULL);
 	printf("%lld %lld\n", reads, now - start);
 	return EXIT_SUCCESS;

@@ -54,10 +54,10 @@ class ReadCost(RunTest):
         for command in [[program("static_spins")], ["env", "-i", SPINS]]:
             for clock in [1, *COARSE]:
                 with self.subTest(command=command, clock=clock):
-                    expected = (coarse_spin(10000, 10**8) if clock in COARSE
-                                else f"{10**4} {10**8}\n")
-                    self.assertEqual(self.run_on(*STILL, "--read-cost", 10000, "--", *command,
-                                                 clock, 10**8), expected)
+                    expected = (coarse_spin(50000, 25 * 10**6) if clock in COARSE
+                                else f"500 {25 * 10**6}\n")
+                    self.assertEqual(self.run_on(*STILL, "--read-cost", 50000, "--", *command,
+                                                 clock, 25 * 10**6), expected)
 
     def test_other_counters(self):
         # 1 kHz: a read costs a cycle at least. 16 bits wrap after 65 ms
@@ -96,10 +96,25 @@ class ReadCost(RunTest):
         self.assertIn("commands: 1 accepted, 0 refused", run.stderr)
 
     def test_waits_end_while_a_thread_spins(self):
-        # it spins until the other thread has slept
-        reads, nanos = map(int, self.spin(1, 10**18, 50 * 10**6).split())
-        self.assertGreater(nanos, 50 * 10**6 - 10000)
-        self.assertLessEqual(abs(nanos - reads * 1000), 10000)
+        # it spins until the other thread has slept, whose sleeps read a clock too
+        reads, nanos = map(int, self.spin(1, 10**18, 2 * 10**6, 100).split())
+        self.assertGreater(nanos, 200 * 10**6 - 10000)
+        self.assertLessEqual(abs(nanos - reads * 1000), 110 * 1000)
+
+    def test_a_node_that_spins_is_not_moved(self):
+        # it has twice the rate, so its counter may be between two values of the common one
+        text = (f"cd {self.folder}; {TKRUN} node a -- {SPINS} 1 {10**8} & "
+                "for i in 1 2 3 4 5 6 7 8 9; do sleep 0.002; done; wait")
+        reads = -(-10**8 // 1001)
+        self.assertEqual(self.run_on(*STILL, "--read-cost", 1001, "--node", "a,error-ppm=1000000",
+                                     "--check", "--", "sh", "-c", text),
+                         f"{reads} {reads * 1001}\n")
+
+    def test_a_wait_starts_where_another_node_is(self):
+        text = f"{TKRUN} node a -- {SPINS} 1 {SECOND}; sleep 0.1; date -u +%s%N"
+        out = self.run_on(*STILL, "--start", 0, "--read-cost", 10000, "--node",
+                          "a,error-ppm=250000", "--check", "--", "sh", "-c", text)
+        self.assertGreaterEqual(int(out.splitlines()[1]), 8 * 10**8)
 
     def test_a_script_and_an_event_come_while_a_thread_spins(self):
         until = "import time\nwhile time.time() < 900: pass"
