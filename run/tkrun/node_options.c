@@ -76,7 +76,7 @@ static struct options common_options(const struct options *all)
 	struct options node = *all;
 
 	node.node_count = 0;
-	node.has_start = node.has_ahead = node.has_uptime = false;
+	node.has_start = node.has_lead = node.has_ahead = node.has_uptime = false;
 	node.ahead = 0;
 	node.script = NULL;
 	return node;

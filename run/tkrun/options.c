@@ -26,7 +26,8 @@ static const char USAGE[] =
 	"  --error-ppm X             it runs so much faster than described (0)\n"
 	"  --speed N                 it runs N times as fast as the host (1)\n"
 	"  --start TIME              REALTIME at the start: SEC[.NSEC] or\n"
-	"                            YYYY-MM-DDThh:mm:ss[.NSEC]Z (the host's)\n"
+	"                            YYYY-MM-DDThh:mm:ss[.NSEC]Z (the host's), or\n"
+	"                            [+-]N[s|m|h|d|y] from the host's; ' xN' sets --speed too\n"
 	"  --ahead SEC               or its lead over the host's REALTIME\n"
 	"  --uptime SEC[.NSEC]       MONOTONIC and BOOTTIME at the start (0)\n"
 	"  --script FILE             opens and commands the clocks by a tkcore script\n"
@@ -108,7 +109,7 @@ const char *parse_nsec(const char *text, uint32_t *nsec)
 	return text;
 }
 
-static void parse_start(struct options *options, const char *text)
+void parse_start(struct options *options, const char *text)
 {
 	struct tm date = { 0 };
 	const char *rest = strptime(text, "%Y-%m-%dT%H:%M:%S", &date);
@@ -182,7 +183,7 @@ void parse_option(struct options *o, const char *name, const char *value)
 	else if (!strcmp(name, "speed"))
 		o->speed = decimal(name, value, 0.000001, 100000);
 	else if (!strcmp(name, "start"))
-		parse_start(o, value);
+		parse_start_words(o, value);
 	else if (!strcmp(name, "ahead"))
 		o->ahead = decimal(name, value, -1e9, 1e9);
 	else if (!strcmp(name, "uptime"))
@@ -226,9 +227,9 @@ static bool is_same_file(const char *one, const char *other)
 
 void compare_options(const struct options *o)
 {
-	if (o->has_start && o->has_ahead)
+	if ((o->has_start || o->has_lead) && o->has_ahead)
 		fail(STATUS_WRONG, "--start and --ahead exclude each other");
-	if (o->script && (o->has_start || o->has_ahead || o->has_uptime))
+	if (o->script && (o->has_start || o->has_lead || o->has_ahead || o->has_uptime))
 		fail(STATUS_WRONG,
 		     "--script opens the clocks, so --start, --ahead and --uptime can't");
 	if (is_same_file(o->record, o->log) ||

@@ -35,6 +35,7 @@ struct options {
 	double error_ppm,
 		speed; /* ppm; ns of the counter in a ns of the host */
 	bool has_start, has_ahead, has_uptime;
+	bool has_lead; /* --start says how far REALTIME is ahead */
 	int64_t start_sec;
 	uint32_t start_nsec;
 	double ahead; /* s */
@@ -68,6 +69,10 @@ bool parse_node_option(struct options *options, const char *name, const char *va
 
 /* Parses ".NSEC", of one to nine digits, or nothing. Returns what follows. */
 const char *parse_nsec(const char *text, uint32_t *nsec);
+
+/* Parse the value of --start: a time, and the same or a lead, with " xSPEED" or without. */
+void parse_start(struct options *options, const char *text);
+void parse_start_words(struct options *options, const char *text);
 
 /* Parses the value of an option with this name. */
 void parse_option(struct options *options, const char *name, const char *value);
