@@ -195,8 +195,8 @@ static void open_record(struct followed *followed, const struct steered_script *
 			followed->plan.open_sec * NANOS + followed->plan.open_nsec;
 }
 
-/* Returns whether a later part begins with the clocks as they are now, apart from their front, which
- * counts something else. */
+/* Returns whether a later part begins with the clocks as they are now. Their fronts count something
+ * else. */
 static bool continues(const struct followed *followed, const struct steered_script *script)
 {
 	uint64_t words[TKC_SAVED_WORDS], now[TKC_NTP_SAVED_WORDS];

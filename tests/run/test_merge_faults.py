@@ -81,7 +81,8 @@ class Faults(RunTest):
                 (f"{opening}\nget,1\n", " record 2: wrong number of fields"),
                 (f"{opening}\nadjtimex,1\n",
                  " record 2: adjtimex, but HZ isn't in the first record"),
-                (opening.replace("openwords,", "openwords,1,"), " record 1: wrong number of fields"),
+                (opening.replace("openwords,", "openwords,1,"),
+                 " record 1: wrong number of fields"),
                 ("openwords,32,16777216,24,1,0,16777216,0,0,5000000000,0,0,0,0,0,10000\n",
                  " record 1: it isn't the start of a run")]:
             with self.subTest(text=text):

@@ -44,7 +44,8 @@ class ReadCost(RunTest):
             for cost in [7, 1000, 10**9]:
                 reads = -(-10**5 // cost)
                 with self.subTest(clock=clock, cost=cost):
-                    self.assertEqual(self.spin(clock, 10**5, cost=cost), f"{reads} {reads * cost}\n")
+                    self.assertEqual(self.spin(clock, 10**5, cost=cost),
+                                     f"{reads} {reads * cost}\n")
         for clock in COARSE:
             with self.subTest(clock=clock):
                 self.assertEqual(self.spin(clock, 25 * 10**6), coarse_spin(1000, 25 * 10**6))
@@ -157,7 +158,8 @@ class ReadCost(RunTest):
 
     def test_wrong_values(self):
         for words, sentence in [
-                (["--read-cost", "x", *STILL], "--read-cost: 'x' isn't a number from 0 to 1000000000"),
+                (["--read-cost", "x", *STILL],
+                 "--read-cost: 'x' isn't a number from 0 to 1000000000"),
                 (["--read-cost", "-1", *STILL], "--read-cost: '-1' isn't"),
                 (["--read-cost", "1000000001", *STILL], "--read-cost: '1000000001' isn't"),
                 (["--read-cost", "1"], "--read-cost needs --counter sleeps\n")]:

@@ -20,6 +20,12 @@ class Start(RunTest):
         self.assertEqual(out, "".join(f"{10**18 + int(sec * SECOND)} 0\n"
                                       for sec in leads.values()))
 
+    def test_a_lead_of_a_node_is_its_own(self):
+        out = self.run_on(*STILL, "--start", "+2d", "--node", "a,ahead=1", "--", "sh", "-c",
+                          f"{CLOCKS}; {TKRUN} node a -- {CLOCKS}")
+        own, node = [int(line.split()[0]) for line in out.splitlines()]
+        self.assertEqual(node - own, SECOND)
+
     def test_a_lead_over_the_host(self):
         for lead, sec in [("+2d", 172800), ("-1h", -3600)]:
             before = time.time_ns()
@@ -36,7 +42,8 @@ class Start(RunTest):
 
     def test_faults(self):
         for words, sentence in [
-                (["--start", "+2w"], "--start: '+2w' isn't [+-]NUMBER[s|m|h|d|y] up to 1000000000 s"),
+                (["--start", "+2w"],
+                 "--start: '+2w' isn't [+-]NUMBER[s|m|h|d|y] up to 1000000000 s"),
                 (["--start", "+1 x0"], "--start: '0' isn't a number from 1e-06 to 100000"),
                 (["--start", "+1", "--ahead", "2"], "--start and --ahead exclude each other"),
                 (["--node", "a,start=+1 x2"], "--node a: --start: a node has no speed"),

@@ -1,4 +1,4 @@
-"""Nodes whose counters wander. The walk, and the counters that follow from it, are computed here."""
+"""Nodes whose counters wander. The walk, and the counters that follow from it, are computed."""
 import itertools
 import os
 import subprocess
@@ -93,7 +93,8 @@ class Wander(RunTest):
             steps = " ".join([str(7 * SECOND)] * 30)
             self.run_nodes(f"$T node {name} -- $P {steps} >out",
                            "--node", f"{name},wander-ppm=1{seed}")
-            return [(self.folder / file).read_text() for file in ("r", f"r.{name}", "r.nodes", "out")]
+            return [(self.folder / file).read_text()
+                    for file in ("r", f"r.{name}", "r.nodes", "out")]
 
         first = files(",seed=3")
         self.assertEqual(files(",seed=3"), first)
