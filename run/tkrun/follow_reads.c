@@ -17,8 +17,9 @@ static uint64_t furthest(const struct run *run)
 
 	for (size_t i = 0; i < run->count; i++) {
 		const struct node *node = &run->nodes[i];
+		uint64_t cycles = atomic_load(&node->machine.shared->cycles);
 
-		common = pace_common(&node->pace, atomic_load(&node->machine.shared->cycles) + 1) - 1;
+		common = pace_common(&node->pace, cycles + 1) - 1;
 		most = common > most ? common : most;
 	}
 	return most;

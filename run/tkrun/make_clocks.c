@@ -218,7 +218,8 @@ static void open_machine(const struct run *run, struct node *node, double host_h
 	set_counter(node, host_hz);
 	set_pace(node, run->count == 1);
 	node->error_ppm = node->options.error_ppm;
-	node->wander = wander_start(node->options.wander_ppm, node->options.seed, node->options.name);
+	node->wander = wander_start(node->options.wander_ppm, node->options.seed,
+				    node->options.name);
 	shared->node = (uint32_t)(node - run->nodes);
 	shared->denies_set = node->options.denies_set;
 	shared->has_stamps = node->options.has_stamps;

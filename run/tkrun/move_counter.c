@@ -232,8 +232,8 @@ static void move_all(struct run *run, uint64_t common)
 	wander_all_due(run);
 }
 
-/* Returns where the common counter moves to, or NEVER. At the steps of the nodes' walks before that,
- * no thread's time comes, so the threads aren't looked at. The last step changes where it moves. */
+/* Returns where the common counter moves to, or NEVER. At the steps of the nodes' walks before
+ * that, no thread's time comes, so the threads aren't looked at. A step changes where it moves. */
 static uint64_t pass_steps(struct run *run)
 {
 	uint64_t common = find_next(run), step = before_wander(run, common);

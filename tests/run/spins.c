@@ -1,11 +1,11 @@
 /* SPDX-License-Identifier: MIT OR Apache-2.0 */
 /*
- * Waits by reading a clock in a loop. Prints the number of its reads after the first one, and the ns
- * from that to the last one. It fails if the clock goes back.
+ * Waits by reading a clock in a loop. Prints the number of its reads after the first one, and the
+ * ns from that to the last one. It fails if the clock goes back.
  *
  *     spins CLOCK NANOS                until so many ns have passed
- *     spins CLOCK NANOS SLEEP TIMES    or until another thread has slept TIMES times for SLEEP ns of
- *                                      MONOTONIC
+ *     spins CLOCK NANOS SLEEP TIMES    or until another thread has slept TIMES times for SLEEP ns
+ *                                      of MONOTONIC
  */
 #define _GNU_SOURCE
 #include <pthread.h>
