@@ -60,6 +60,7 @@ struct shared_page {
 	double speed;		/* ns of the counter in a ns of the host */
 	uint64_t update_nanos;	/* the span between two updates */
 	uint32_t node;		/* the number of the node: 0 for the program's clocks */
+	uint64_t read_cost;	/* the cycles by which a read moves a counter of sleeps */
 
 	_Alignas(64) struct tkc_page page;
 	struct next_second seconds[2]; /* of the page's copies */
@@ -127,6 +128,7 @@ struct rows {
 	_Atomic uint32_t wanted;
 	atomic_bool is_full; /* no room will be made */
 	uint64_t every;	     /* 0: no record */
+	uint64_t looks_every; /* the same, or 1 if each read has a cost */
 	_Atomic uint64_t reads; /* that were to be recorded */
 	uint64_t reads_most;
 	bool has_readers;    /* a row says who made each read */

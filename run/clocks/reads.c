@@ -107,7 +107,7 @@ SELDOM static enum tkc_code renew(struct machine *machine, struct kept *kept)
 	return look(machine, kept, &reading);
 }
 
-SELDOM static void record_read(struct machine *machine, uint32_t clock,
+static void record_read(struct machine *machine, uint32_t clock,
 			enum tkc_code code, const struct kept *kept,
 			uint64_t reading, const struct tkc_time *time,
 			enum read_call call)
@@ -129,7 +129,7 @@ SELDOM static void record_read(struct machine *machine, uint32_t clock,
 	rows_add_read(machine, &row, call);
 }
 
-/* Counts a read, and returns whether it is to be recorded. */
+/* Counts a read, and returns whether it is to be recorded or has a cost. */
 static inline bool count_read(struct machine *machine)
 {
 	struct control *control = machine->control;
@@ -141,7 +141,7 @@ static inline bool count_read(struct machine *machine)
 					  memory_order_relaxed);
 		machine_polled(machine, READS_IN_COUNT);
 	}
-	return control->rows.every && own_reads % control->rows.every == 0;
+	return control->rows.looks_every && own_reads % control->rows.looks_every == 0;
 }
 
 /* Returns the reading since which a coarse clock has its time. In a script it lets no
@@ -152,6 +152,35 @@ SELDOM static uint64_t reading_of(const struct kept *kept)
 
 	tkc_snapshot_words(words, &kept->snapshot);
 	return words[SAVED_LAST];
+}
+
+/* Moves the counter by the cost of a read. While the thread doesn't wait, tkrun doesn't update the
+ * clocks, so the thread does: a coarse clock moves only by updates, and a narrow counter must not
+ * wrap twice. */
+SELDOM static void move_by_read(struct machine *machine, const struct kept *kept)
+{
+	struct shared_page *shared = machine->shared;
+	uint64_t reading;
+
+	atomic_fetch_add(&shared->cycles, shared->read_cost);
+	reading = machine_reading(shared);
+	if ((double)((reading - reading_of(kept)) & shared->mask) * shared->nanos_per_cycle >=
+		    (double)shared->update_nanos &&
+	    !tkc_snapshot_asleep(&kept->snapshot))
+		machine_command(machine, TKC_CMD_UPDATE, 0, 0);
+}
+
+/* Records a read if it is the thread's next one to be recorded, and lets it cost something. */
+SELDOM static void note_read(struct machine *machine, uint32_t clock, enum tkc_code code,
+			     const struct kept *kept, uint64_t reading,
+			     const struct tkc_time *time, enum read_call call)
+{
+	uint64_t every = machine->control->rows.every;
+
+	if (every && own_reads % every == 0)
+		record_read(machine, clock, code, kept, reading, time, call);
+	if (machine->shared->read_cost)
+		move_by_read(machine, kept);
 }
 
 /* Reads a coarse clock, which needs no reading of the counter. */
@@ -170,8 +199,8 @@ static enum tkc_code read_coarse(struct machine *machine, struct kept *kept,
 	}
 	*out = coarse->time;
 	if (count_read(machine))
-		record_read(machine, clock, coarse->code, kept,
-			    reading_of(kept), out, call);
+		note_read(machine, clock, coarse->code, kept, reading_of(kept), out,
+			  call);
 	return coarse->code;
 }
 
@@ -186,7 +215,7 @@ static enum tkc_code read_fine(struct machine *machine, struct kept *kept,
 		return code;
 	code = get_kept(kept, clock, reading, out);
 	if (count_read(machine))
-		record_read(machine, clock, code, kept, reading, out, call);
+		note_read(machine, clock, code, kept, reading, out, call);
 	return code;
 }
 

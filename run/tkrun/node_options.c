@@ -8,12 +8,12 @@
 #include <stdlib.h>
 #include <string.h>
 
-/* A record R has the file R.rows while the program runs, R.nodes next to those of the nodes, and
- * R.readers with --readers. */
-static const char *const RESERVED[] = { "rows", "nodes", "readers" };
+/* A record R has the file R.rows while the program runs, R.nodes next to those of the nodes, which
+ * contains the true time by its name, and R.readers with --readers. */
+static const char *const RESERVED[] = { "rows", "nodes", "readers", TRUE_NAME };
 
 static const char *const OPTIONS[] = { "error-ppm", "start", "ahead", "uptime", "script",
-				       "hz",	    "bits",  "maxsec" };
+				       "hz",	    "bits",  "maxsec", "wander-ppm", "seed" };
 
 bool is_node_name(const char *text)
 {
@@ -32,6 +32,17 @@ void add_node(struct options *options, const char *words)
 	if (options->node_count == NODES_MOST)
 		fail(STATUS_WRONG, "--node: there are more than %d", NODES_MOST);
 	options->node_words[options->node_count++] = words;
+}
+
+bool parse_node_option(struct options *options, const char *name, const char *value)
+{
+	if (!strcmp(name, "wander-ppm"))
+		options->wander_ppm = decimal(name, value, 0, 100000);
+	else if (!strcmp(name, "seed"))
+		options->seed = whole(name, value, 0, UINT64_MAX);
+	else
+		return false;
+	return true;
 }
 
 /* Parses "OPTION=VALUE". */
@@ -65,7 +76,7 @@ static struct options common_options(const struct options *all)
 	struct options node = *all;
 
 	node.node_count = 0;
-	node.has_start = node.has_ahead = node.has_uptime = false;
+	node.has_start = node.has_lead = node.has_ahead = node.has_uptime = false;
 	node.ahead = 0;
 	node.script = NULL;
 	return node;
@@ -87,6 +98,8 @@ static void parse_node(const struct options *all, const char *words, struct opti
 		parse_word(node, word);
 	if (all->record)
 		node->record = copy_of(all->record, node->name);
+	if (node->wander_ppm != 0 && all->counter != COUNTER_SLEEPS)
+		fail(STATUS_WRONG, "wander-ppm needs --counter sleeps");
 	compare_options(node);
 	node->has_uptime |= all->has_uptime && !node->script;
 }

@@ -18,13 +18,16 @@ static const char USAGE[] =
 	"usage: tkrun [OPTIONS] -- PROGRAM ARGS..\n"
 	"       tkrun node NAME -- PROGRAM ARGS..\n"
 	"       tkrun ctl NODE step|freq|suspend|leap [VALUE]\n"
+	"       tkrun merge RECORD\n"
 	"  --counter raw|tsc|sleeps  the counter (raw)\n"
 	"  --hz N, --bits N, --maxsec N\n"
 	"                            its description (1000000000 or the TSC's, 64, 1)\n"
+	"  --read-cost NS            each read moves --counter sleeps by that much (0)\n"
 	"  --error-ppm X             it runs so much faster than described (0)\n"
 	"  --speed N                 it runs N times as fast as the host (1)\n"
 	"  --start TIME              REALTIME at the start: SEC[.NSEC] or\n"
-	"                            YYYY-MM-DDThh:mm:ss[.NSEC]Z (the host's)\n"
+	"                            YYYY-MM-DDThh:mm:ss[.NSEC]Z (the host's), or\n"
+	"                            [+-]N[s|m|h|d|y] from the host's; ' xN' sets --speed too\n"
 	"  --ahead SEC               or its lead over the host's REALTIME\n"
 	"  --uptime SEC[.NSEC]       MONOTONIC and BOOTTIME at the start (0)\n"
 	"  --script FILE             opens and commands the clocks by a tkcore script\n"
@@ -65,8 +68,7 @@ void fail(int status, const char *form, ...)
 	exit(status);
 }
 
-/* Returns the number of an option's value. */
-static uint64_t whole(const char *option, const char *text, uint64_t least,
+uint64_t whole(const char *option, const char *text, uint64_t least,
 		      uint64_t most)
 {
 	unsigned long long value;
@@ -82,7 +84,7 @@ static uint64_t whole(const char *option, const char *text, uint64_t least,
 	return value;
 }
 
-static double decimal(const char *option, const char *text, double least,
+double decimal(const char *option, const char *text, double least,
 		      double most)
 {
 	char *end = NULL;
@@ -108,7 +110,7 @@ const char *parse_nsec(const char *text, uint32_t *nsec)
 	return text;
 }
 
-static void parse_start(struct options *options, const char *text)
+void parse_start(struct options *options, const char *text)
 {
 	struct tm date = { 0 };
 	const char *rest = strptime(text, "%Y-%m-%dT%H:%M:%S", &date);
@@ -183,7 +185,7 @@ void parse_option(struct options *o, const char *name, const char *value)
 	else if (!strcmp(name, "speed"))
 		o->speed = decimal(name, value, 0.000001, 100000);
 	else if (!strcmp(name, "start"))
-		parse_start(o, value);
+		parse_start_words(o, value);
 	else if (!strcmp(name, "ahead"))
 		o->ahead = decimal(name, value, -1e9, 1e9);
 	else if (!strcmp(name, "uptime"))
@@ -202,7 +204,9 @@ void parse_option(struct options *o, const char *name, const char *value)
 		o->plan = value;
 	else if (!strcmp(name, "node"))
 		add_node(o, value);
-	else
+	else if (!strcmp(name, "read-cost"))
+		o->read_cost = whole(name, value, 0, NANOS);
+	else if (!parse_node_option(o, name, value))
 		set_flag(o, name);
 	o->has_ahead |= !strcmp(name, "ahead");
 	o->has_uptime |= !strcmp(name, "uptime");
@@ -225,9 +229,9 @@ static bool is_same_file(const char *one, const char *other)
 
 void compare_options(const struct options *o)
 {
-	if (o->has_start && o->has_ahead)
+	if ((o->has_start || o->has_lead) && o->has_ahead)
 		fail(STATUS_WRONG, "--start and --ahead exclude each other");
-	if (o->script && (o->has_start || o->has_ahead || o->has_uptime))
+	if (o->script && (o->has_start || o->has_lead || o->has_ahead || o->has_uptime))
 		fail(STATUS_WRONG,
 		     "--script opens the clocks, so --start, --ahead and --uptime can't");
 	if (is_same_file(o->record, o->log) ||
@@ -240,6 +244,8 @@ void compare_options(const struct options *o)
 		     o->limits_reads ? "reads" : "every");
 	if (o->has_readers && !o->record)
 		fail(STATUS_WRONG, "--readers needs --record");
+	if (o->read_cost && o->counter != COUNTER_SLEEPS)
+		fail(STATUS_WRONG, "--read-cost needs --counter sleeps");
 	if (o->plan && !o->node_count && !o->name)
 		fail(STATUS_WRONG, "--plan needs --node");
 	if (o->counter == COUNTER_SLEEPS && !o->name &&
@@ -264,6 +270,7 @@ void parse_options(int count, char **words, struct options *options)
 		{ "plan", 1, 0, 0 },	  { "help", 0, 0, 'h' },
 		{ "version", 0, 0, 'v' }, { "reads", 1, 0, 0 },
 		{ "readers", 0, 0, 0 },
+		{ "read-cost", 1, 0, 0 },
 		{ 0, 0, 0, 0 },
 	};
 	int letter, index;

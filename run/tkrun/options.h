@@ -21,6 +21,9 @@ enum { UPTIME_MOST = 946079999 };
 /* The most nodes, and the most bytes of a node's name. */
 enum { NODES_MOST = 64, NODE_NAME_MOST = 31 };
 
+/* The name of the true time in the file RECORD.nodes. */
+#define TRUE_NAME "true"
+
 /* How the name of a node's folder begins. */
 #define NODE_FOLDER "node."
 
@@ -32,6 +35,7 @@ struct options {
 	double error_ppm,
 		speed; /* ppm; ns of the counter in a ns of the host */
 	bool has_start, has_ahead, has_uptime;
+	bool has_lead; /* --start says how far REALTIME is ahead */
 	int64_t start_sec;
 	uint32_t start_nsec;
 	double ahead; /* s */
@@ -40,11 +44,14 @@ struct options {
 	const char *script, *record, *log, *plan;
 	uint64_t every;
 	uint64_t reads_most; /* in a record */
+	uint64_t read_cost; /* ns by which a read moves a counter of sleeps */
 	bool limits_reads;   /* --reads is there */
 	bool has_readers;    /* the record says who made each read */
 	bool is_checked, denies_set, has_stamps, is_quiet, is_static, is_lax;
 	char **program;
 	const char *name; /* of a node, or NULL */
+	double wander_ppm; /* of a node */
+	uint64_t seed;
 	const char *node_words[NODES_MOST];
 	size_t node_count;
 	struct options *nodes;
@@ -54,8 +61,19 @@ struct options {
  * STATUS_WRONG. */
 void parse_options(int count, char **words, struct options *options);
 
+/* Return the number of an option's value, or end tkrun with a sentence. */
+uint64_t whole(const char *option, const char *text, uint64_t least, uint64_t most);
+double decimal(const char *option, const char *text, double least, double most);
+
+/* Parses an option that only nodes have. Returns false if it isn't one. */
+bool parse_node_option(struct options *options, const char *name, const char *value);
+
 /* Parses ".NSEC", of one to nine digits, or nothing. Returns what follows. */
 const char *parse_nsec(const char *text, uint32_t *nsec);
+
+/* Parse the value of --start: a time, and the same or a lead, with " xSPEED" or without. */
+void parse_start(struct options *options, const char *text);
+void parse_start_words(struct options *options, const char *text);
 
 /* Parses the value of an option with this name. */
 void parse_option(struct options *options, const char *name, const char *value);

@@ -52,7 +52,8 @@ class Completion(Case):
 
     def test_bash_offers_each_option_of_tkrun(self):
         self.assertEqual(sorted(["--", *options()]), self.bash("tkrun", "-"))
-        self.assertEqual(["--readers", "--reads", "--record"], self.bash("tkrun", "--quiet", "--r"))
+        self.assertEqual(["--read-cost", "--readers", "--reads", "--record"],
+                         self.bash("tkrun", "--quiet", "--r"))
         self.assertEqual(["raw", "sleeps", "tsc"], self.bash("tkrun", "--counter", ""))
         self.assertEqual([], self.bash("tkrun", "--hz", ""))
         (self.room / "record.csv").touch()
