@@ -23,7 +23,7 @@
 #include <tkcore_page.h>
 
 enum {
-	MACHINE_LAYOUT = 0x746b7203,
+	MACHINE_LAYOUT = 0x746b7204,
 	WAITERS_MOST = 32768,
 };
 
@@ -44,6 +44,14 @@ struct shared_lines {
 	_Atomic uint64_t of[LINES][LINE_WORDS]; /* by the clock's number */
 };
 
+enum { PEERS_MOST = 64 };
+
+/* The addresses of IPv4, in the network's order, of a node with links, or 0, and of the nodes to
+ * which it has a link, by their numbers minus 1. */
+struct peers {
+	uint32_t own, count, of[PEERS_MOST];
+};
+
 /*
  * What every process reads. A reading of the counter is
  * (first + ((host - base) * scale >> scale_shift)) & mask, where host is the
@@ -60,6 +68,7 @@ struct shared_page {
 	double speed;		/* ns of the counter in a ns of the host */
 	uint64_t update_nanos;	/* the span between two updates */
 	uint32_t node;		/* the number of the node: 0 for the program's clocks */
+	struct peers peers;
 
 	_Alignas(64) struct tkc_page page;
 	struct next_second seconds[2]; /* of the page's copies */

@@ -93,6 +93,9 @@ bool answers_start(int listener);
 /* Opens the files of a node's clocks. Returns false if it can't. */
 bool files_open(size_t node, const char *folder);
 
+/* Sets the socket that FILE_NET is, for all nodes. */
+void files_offer_net(int file);
+
 /* Returns whether a thread is of the user who may command the clocks. */
 bool files_may_command(int thread);
 

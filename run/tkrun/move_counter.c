@@ -2,6 +2,7 @@
 /* move_counter.c - moves a counter of sleeps, and wakes the threads whose time has come. */
 #define _GNU_SOURCE
 #include "idle.h"
+#include "net.h"
 
 #include <stdlib.h>
 #include <sys/syscall.h>
@@ -161,12 +162,12 @@ static uint64_t common_after(const struct node *node, uint64_t cycles)
 			   atomic_load(&node->machine.shared->cycles) + cycles);
 }
 
-/* Returns the common counter at the first of the threads' times, the orders and the events of all
- * nodes. Returns NEVER if there is none, or a thread is about to wait for a time that has come. */
+/* Returns the common counter at the first of the threads' times, the orders, the events and the
+ * arrivals of all nodes. Returns NEVER if there is none, or a thread is about to wait for a time that has come. */
 static uint64_t find_next(struct run *run)
 {
 	bool is_reached = false, is_due = events_next() <= run->elapsed;
-	uint64_t least = events_next();
+	uint64_t least = events_next(), arrival = net_next();
 
 	for (size_t i = 0; i < run->count; i++) {
 		struct node *node = &run->nodes[i];
@@ -180,6 +181,7 @@ static uint64_t find_next(struct run *run)
 	}
 	if (is_due)
 		return run->elapsed;
+	least = arrival < least ? arrival : least;
 	return is_reached ? NEVER : least;
 }
 
@@ -220,7 +222,7 @@ bool move_counter(struct run *run)
 	uint64_t common;
 
 	run->tree.has_filter = run->listener >= 0;
-	if (!all_wait(run) || (run->count > 1 && control_serve(run)))
+	if (!all_wait(run) || (run->count > 1 && (control_serve(run) || net_serve(run->elapsed))))
 		return false;
 	common = find_next(run);
 	if (common == NEVER)

@@ -8,11 +8,12 @@
 #include <stdlib.h>
 #include <string.h>
 
-/* A record R has the file R.rows while the program runs, and R.nodes next to those of the nodes. */
-static const char *const RESERVED[] = { "rows", "nodes" };
+/* A record R has the file R.rows while the program runs, and R.nodes next to those of the nodes.
+ * The others are commands of `tkrun ctl`. */
+static const char *const RESERVED[] = { "rows", "nodes", "partition", "heal" };
 
 static const char *const OPTIONS[] = { "error-ppm", "start", "ahead", "uptime", "script",
-				       "hz",	    "bits",  "maxsec" };
+				       "hz",	    "bits",  "maxsec", "address" };
 
 bool is_node_name(const char *text)
 {
@@ -24,6 +25,15 @@ bool is_node_name(const char *text)
 			return false;
 	}
 	return !text[length] && length <= NODE_NAME_MOST && isalpha((unsigned char)*text);
+}
+
+size_t find_node(const struct options *options, const char *name)
+{
+	size_t i = options->node_count;
+
+	while (i && strcmp(options->nodes[i - 1].name, name))
+		i--;
+	return i;
 }
 
 void add_node(struct options *options, const char *words)
@@ -63,7 +73,7 @@ static struct options common_options(const struct options *all)
 {
 	struct options node = *all;
 
-	node.node_count = 0;
+	node.node_count = node.link_count = 0;
 	node.has_start = node.has_ahead = node.has_uptime = false;
 	node.ahead = 0;
 	node.script = NULL;
@@ -100,6 +110,9 @@ void parse_nodes(struct options *options)
 		for (size_t j = 0; j < i; j++) {
 			if (!strcmp(options->nodes[i].name, options->nodes[j].name))
 				fail(STATUS_WRONG, "two nodes have this name");
+			if (options->nodes[i].address &&
+			    options->nodes[i].address == options->nodes[j].address)
+				fail(STATUS_WRONG, "two nodes have this address");
 		}
 		fail_within(NULL);
 	}

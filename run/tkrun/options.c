@@ -18,6 +18,7 @@ static const char USAGE[] =
 	"usage: tkrun [OPTIONS] -- PROGRAM ARGS..\n"
 	"       tkrun node NAME -- PROGRAM ARGS..\n"
 	"       tkrun ctl NODE step|freq|suspend|leap [VALUE]\n"
+	"       tkrun ctl partition|heal NODE NODE\n"
 	"  --counter raw|tsc|sleeps  the counter (raw)\n"
 	"  --hz N, --bits N, --maxsec N\n"
 	"                            its description (1000000000 or the TSC's, 64, 1)\n"
@@ -38,6 +39,8 @@ static const char USAGE[] =
 	"  --node NAME[,OPTION=VALUE]..\n"
 	"                            a machine with its own clocks, any number: `tkrun node` runs\n"
 	"                            programs there\n"
+	"  --link NODE,NODE[,OPTION=VALUE]..\n"
+	"                            a network between two nodes\n"
 	"  --plan FILE               what happens to nodes: lines `at SEC NODE COMMAND [VALUE]`\n"
 	"  --lax                     a program on the host's clocks doesn't end the run\n"
 	"  --static                  starts nothing if tkrun can't answer system calls\n"
@@ -200,6 +203,10 @@ void parse_option(struct options *o, const char *name, const char *value)
 		o->plan = value;
 	else if (!strcmp(name, "node"))
 		add_node(o, value);
+	else if (!strcmp(name, "link"))
+		add_link(o, value);
+	else if (!strcmp(name, "address"))
+		o->address = parse_address(value);
 	else
 		set_flag(o, name);
 	o->has_ahead |= !strcmp(name, "ahead");
@@ -259,6 +266,7 @@ void parse_options(int count, char **words, struct options *options)
 		{ "lax", 0, 0, 0 },	  { "node", 1, 0, 0 },
 		{ "plan", 1, 0, 0 },	  { "help", 0, 0, 'h' },
 		{ "version", 0, 0, 'v' }, { "reads", 1, 0, 0 },
+		{ "link", 1, 0, 0 },
 		{ 0, 0, 0, 0 },
 	};
 	int letter, index;
@@ -284,5 +292,6 @@ void parse_options(int count, char **words, struct options *options)
 		     "no program: tkrun [OPTIONS] -- PROGRAM ARGS..");
 	compare_options(options);
 	parse_nodes(options);
+	parse_links(options);
 	options->program = words + optind;
 }

@@ -19,10 +19,20 @@ enum {
 enum { UPTIME_MOST = 946079999 };
 
 /* The most nodes, and the most bytes of a node's name. */
-enum { NODES_MOST = 64, NODE_NAME_MOST = 31 };
+enum { NODES_MOST = PEERS_MOST, NODE_NAME_MOST = 31 };
 
 /* How the name of a node's folder begins. */
 #define NODE_FOLDER "node."
+
+/* One direction of a link between two nodes, by their numbers. */
+struct link_options {
+	size_t from, to;
+	uint64_t delay, jitter; /* ns: each flight takes `delay`, and up to `jitter` more */
+	double loss;		/* the part of the datagrams that are lost */
+	uint64_t rate;		/* bits per second, or 0 for any */
+	uint64_t queue;		/* the bytes that may wait for the rate */
+	uint64_t seed;
+};
 
 struct options {
 	enum counter_kind counter;
@@ -47,6 +57,10 @@ struct options {
 	const char *node_words[NODES_MOST];
 	size_t node_count;
 	struct options *nodes;
+	uint32_t address; /* of a node, of IPv4 in the network's order, or 0 */
+	const char **link_words;
+	size_t link_count;
+	struct link_options *links; /* one for each direction */
 };
 
 /* Parses the arguments. At a wrong one, ends tkrun with a sentence and
@@ -65,6 +79,19 @@ void compare_options(const struct options *options);
 /* Adds the words of a --node, and parses those of all, once the other options are known. */
 void add_node(struct options *options, const char *words);
 void parse_nodes(struct options *options);
+
+/* Adds the words of a --link, and parses those of all, once the nodes are known. */
+void add_link(struct options *options, const char *words);
+void parse_links(struct options *options);
+
+/* Returns the link from one node to another, or NULL. */
+const struct link_options *find_link(const struct options *options, size_t from, size_t to);
+
+/* Returns the number of a node, or 0 if there is none with the name. */
+size_t find_node(const struct options *options, const char *name);
+
+/* Returns the address of a node, in the network's order. Ends tkrun if it isn't one. */
+uint32_t parse_address(const char *text);
 
 /* Returns whether a text may be the name of a node. */
 bool is_node_name(const char *text);

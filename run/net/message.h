@@ -1,0 +1,31 @@
+/* SPDX-License-Identifier: MIT OR Apache-2.0 */
+/*
+ * message.h - what the library libtkrun-net.so hands to tkrun, in a datagram to the socket `net` in
+ * the folder of the clocks. The file that the program sends by is part of it.
+ */
+#ifndef MESSAGE_H
+#define MESSAGE_H
+
+#include <netinet/in.h>
+#include <stdint.h>
+
+enum message_kind { MESSAGE_DATAGRAM };
+
+/* The most bytes of control data, and of a datagram of UDP. */
+enum { CONTROL_MOST = 512, DATAGRAM_MOST = 65507 };
+
+/* The control data and the bytes of a datagram come after this. */
+struct message {
+	uint32_t kind;		 /* enum message_kind */
+	uint32_t node;		 /* the sender's */
+	uint32_t address;	 /* the receiver's, of IPv4 in the network's order */
+	uint32_t to_length;	 /* of `to`, or 0 if the socket is connected */
+	uint32_t control_length; /* bytes */
+	union {
+		struct sockaddr any;
+		struct sockaddr_in four;
+		struct sockaddr_in6 six; /* with an address of IPv4 */
+	} to;
+};
+
+#endif

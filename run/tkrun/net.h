@@ -1,0 +1,79 @@
+/* SPDX-License-Identifier: MIT OR Apache-2.0 */
+/*
+ * net.h - the network between nodes, with --link. Programs hand datagrams and connections to tkrun
+ * (net/message.h), which lets them arrive when the common counter has reached their times. All of it
+ * happens while all threads wait: so all that was sent before was sent at the present time.
+ */
+#ifndef TKRUN_NET_H
+#define TKRUN_NET_H
+
+#include "tkrun.h"
+#include "net/message.h"
+
+/* One direction of a link. */
+struct link {
+	struct link_options options;
+	bool is_cut;
+	uint64_t place;	  /* in the list of all */
+	uint64_t draws;	  /* random numbers that it has drawn */
+	uint64_t flights; /* that it has had */
+	uint64_t busy;	  /* ns: its rate has let all bytes go then, and `rest` / rate ns later */
+	uint64_t rest;
+};
+
+/* Makes the links, and gives each node the addresses of the others. */
+void links_open(struct run *run);
+
+/* Returns the link from one node to another, or NULL. */
+struct link *link_between(size_t from, size_t to);
+
+/* Returns the number of the node with an address, or 0. */
+size_t node_at(uint32_t address);
+
+/* Cuts both directions between two nodes, or heals them. */
+void links_cut(size_t one, size_t other, bool is_cut);
+
+/* Returns whether a link loses what is sent now, at random or since it is cut. */
+bool link_loses(struct link *link);
+
+/* Returns whether more bytes wait for the rate than the queue may have. */
+bool link_is_full(const struct link *link, uint64_t now);
+
+/* Returns when some bytes arrive that are sent now. */
+uint64_t link_arrival(struct link *link, uint64_t now, size_t bytes);
+
+/* Something on its way. Those of one time arrive in the order of their links. */
+struct flight {
+	uint64_t arrival, place, number;
+	void (*arrive)(struct flight *flight, uint64_t now); /* frees it */
+};
+
+/* Lets a flight begin. */
+void flight_begin(struct flight *flight, struct link *link, uint64_t arrival);
+
+/* Return the time of the first arrival, or NEVER, and how much is on its way. */
+uint64_t flights_next(void);
+size_t flights_count(void);
+
+/* Lets the first flight arrive, if its time has come. Returns whether there was one. */
+bool flights_arrive(uint64_t now);
+
+/* Sends a datagram at the wish of a program. It closes the file. */
+void take_datagram(const struct message *message, const char *bytes, size_t length, int file,
+		   uint64_t now);
+
+/* Opens the socket, if there are links, and removes its name. */
+void net_open(struct run *run);
+void net_remove(const char *folder);
+
+/* Takes what programs have sent, or lets what has arrived go on. Returns whether there was
+ * something: then threads may run. */
+bool net_serve(uint64_t now);
+
+/* Returns the next time at which there is something to do, or NEVER. */
+uint64_t net_next(void);
+
+/* Allocates memory that is 0, or ends tkrun. */
+void *net_allocate(size_t size);
+
+#endif

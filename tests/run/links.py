@@ -1,0 +1,53 @@
+"""What the tests of links between nodes share: Python programs on two or three nodes."""
+import os
+import random
+import textwrap
+
+from runs import STILL, TKRUN, RunTest
+
+SECOND = 10**9
+MILLI = 10**6
+START = 2000  # the REALTIME of all nodes, in s, when a run starts
+# no other test that runs now has these
+NETWORK = "127.{}.{}.".format(*random.Random(os.getpid()).sample(range(1, 64), 2))
+ADDRESSES = {name: f"{NETWORK}{i + 1}" for i, name in enumerate("abc")}
+OPTIONS = [*STILL, "--start", START]
+for NAME, ADDRESS in ADDRESSES.items():
+    OPTIONS += ["--node", f"{NAME},address={ADDRESS}"]
+
+PRELUDE = f"""import errno, os, select, signal, socket, struct, sys, time
+A, B, C = {tuple(ADDRESSES.values())}
+AT_B = B, 5000
+def now(): return time.clock_gettime_ns(time.CLOCK_REALTIME) - {START} * 10**9
+def show(*words): print(*words, now(), flush=True)
+def udp(*name):
+    new = socket.socket(socket.AF_INET, socket.SOCK_DGRAM)
+    if name: new.bind(name)
+    return new
+"""
+
+
+class LinkTest(RunTest):
+    def script(self, programs, before=""):
+        """A shell script that runs a Python program on each node, and waits for all. Those that
+        still wait after a long time of the clocks are killed."""
+        lines = [before]
+        for name, text in programs.items():
+            path = self.file(f"{name}.py", PRELUDE + textwrap.dedent(text))
+            lines.append(f"{TKRUN} node {name} -- python3 -B {path} >{self.folder}/{name} 2>&1 & "
+                         "P=\"$P $!\"")
+        lines.append("exec 2>/dev/null; { sleep 100000; kill -9 $P; } & wait $P; true")
+        return ["--", "sh", "-c", "\n".join(lines)]
+
+    def read(self, name):
+        """What the program of a node has printed: the words of each line, numbers as such."""
+        return [[int(word) if word.lstrip("-").isdigit() else word for word in line.split()]
+                for line in (self.folder / name).read_text().splitlines()]
+
+    def on_links(self, links, programs, *options, before="", status=0):
+        """Runs the programs with these links. Returns what each of them has printed."""
+        words = [word for link in links for word in ("--link", link)]
+        out = self.run_on(*OPTIONS, *words, *options, *self.script(programs, before),
+                          status=status)
+        self.assertEqual(out, "")
+        return {name: self.read(name) for name in programs}

@@ -1,0 +1,423 @@
+"""Datagrams between nodes with --link. All times are computed here: a program starts at 0, and a
+sleep of a second ends 1 ns after it."""
+import unittest
+
+from links import ADDRESSES, MILLI, NETWORK, OPTIONS, SECOND, LinkTest
+from runs import CAN_FILTER, IS_ROOT, TKRUN, call, needs_root, program
+
+SENDS = program("net_sends")
+# the texts of net_sends in the order of its calls
+TEXTS = ["sendmsg", "send", "msgmmsg", "sendto", "sendmsg", "send", "msgmmsg", "connected", "write",
+         "writev", "", "", "control", "65507"]
+RECEIVE_ALL = """
+    s = udp("", 5000)
+    while True:
+        text, name = s.recvfrom(70000)
+        show(text.decode() if len(text) < 100 else len(text), name[0])
+        if len(text) == 65507: break
+"""
+# sends some datagrams with their numbers, and waits before each
+SEND_SOME = "s = udp()\nfor i in range({0}): time.sleep({1}); s.sendto(b'%d' % i, AT_B)\n"
+RECEIVE_SOME = """
+    s = udp(B, 5000)
+    s.settimeout({0})
+    try:
+        while True: show(s.recv(1 << 16).decode())
+    except TimeoutError: pass
+"""
+
+
+def arrivals(lines):
+    """The numbers that have arrived, and the times without the ns by which sleeps are late."""
+    return [line[0] for line in lines], [line[1] // 1000 * 1000 for line in lines]
+
+
+class Datagrams(LinkTest):
+    def test_each_call_that_sends(self):
+        for address in (ADDRESSES["b"], "::ffff:" + ADDRESSES["b"]):
+            with self.subTest(address=address):
+                out = self.on_links(["a,b,delay=20ms"], {
+                    "b": RECEIVE_ALL,
+                    "a": f"time.sleep(1); os.execv('{SENDS}', ['s', '{address}', '5000'])"})
+                self.assertEqual(out["a"], [])
+                texts = [int(text) if text.isdigit() else text for text in TEXTS]
+                names = [ADDRESSES["a"]] * len(TEXTS)
+                names[TEXTS.index("control")] = "127.0.0.77"  # see net_sends.c
+                expected = [[text, name, SECOND + 1 + 20 * MILLI] if text != "" else
+                            [name, SECOND + 1 + 20 * MILLI] for text, name in zip(texts, names)]
+                self.assertEqual(out["b"], expected)
+
+    def test_both_directions(self):
+        # 10 ms there and 30 ms back
+        out = self.on_links(["a,b,delay=10ms", "b,a,delay=0.03"], {
+            "b": """
+                s = udp(B, 5000)
+                for _ in range(2):
+                    text, name = s.recvfrom(10); show(text.decode()); s.sendto(text, name)
+                """,
+            "a": """
+                time.sleep(1)
+                s = udp(); s.sendto(b"one", AT_B); show(s.recv(10).decode())
+                s = udp(); s.connect(AT_B); s.send(b"two"); show(s.recv(10).decode())
+                """})
+        first = SECOND + 1
+        self.assertEqual(out["b"], [["one", first + 10 * MILLI], ["two", first + 50 * MILLI]])
+        self.assertEqual(out["a"], [["one", first + 40 * MILLI], ["two", first + 80 * MILLI]])
+
+    def test_the_other_direction_has_the_values_too(self):
+        out = self.on_links(["b,a,delay=250us"], {
+            "b": RECEIVE_SOME.format(2), "a": "time.sleep(1); udp().sendto(b'1', AT_B)"})
+        self.assertEqual(out["b"], [[1, SECOND + 1 + 250000]])
+
+    def test_waits_for_a_datagram(self):
+        # each begins when the datagram before has come, and ends at its time or at an arrival
+        waits = ["s.recv(9)", "s.recvmsg(9)", "s.recv_into(bytearray(9))", "os.read(s.fileno(), 9)",
+                 "(select.select([s], [], [], 9), s.recv(9))",
+                 "(poll.poll(9000), s.recv(9))", "(epoll.poll(9), s.recv(9))",
+                 "(select.select([s], [], [], 0.25), show('none'), s.recv(9))",
+                 "(poll.poll(250), show('none'), s.recv(9))",
+                 "(epoll.poll(0.25), show('none'), s.recv(9))"]
+        body = "\n    ".join(f"{wait}; show('got')" for wait in waits)
+        out = self.on_links(["a,b,delay=1"], {
+            "b": f"""
+    s = udp(B, 5000)
+    poll = select.poll(); poll.register(s, select.POLLIN)
+    epoll = select.epoll(); epoll.register(s, select.EPOLLIN)
+    {body}
+    """, "a": SEND_SOME.format(len(waits), 1)})
+        expected = []
+        for i in range(len(waits)):
+            if "none" in waits[i]:
+                expected.append(["none", (i + 1) * SECOND + 250 * MILLI])
+            expected.append(["got", (i + 2) * SECOND])
+        self.assertEqual([[word, time // 1000 * 1000] for word, time in out["b"]], expected)
+
+    def test_only_the_linked_nodes_have_delays(self):
+        out = self.on_links(["a,b,delay=1"], {
+            "b": RECEIVE_SOME.format(3),
+            "a": """
+                time.sleep(1)
+                own = udp(A, 6000); udp().sendto(b"own", (A, 6000)); show(own.recv(9).decode())
+                own = udp("127.0.0.1", 0); udp().sendto(b"host", own.getsockname())
+                show(own.recv(9).decode())
+                """,
+            "c": "time.sleep(1); udp().sendto(b'c', AT_B)"},
+            before="python3 -c \"import socket, time; time.sleep(0.5); socket.socket(socket.AF_INET, "
+                   "socket.SOCK_DGRAM).sendto(b'p', ('{}', 5000))\" &".format(ADDRESSES["b"]))
+        self.assertEqual(out["b"], [["p", SECOND // 2 + 1], ["c", SECOND + 1]])
+        self.assertEqual(out["a"], [["own", SECOND + 1], ["host", SECOND + 1]])
+
+    def test_jitter(self):
+        def run(options):
+            out = self.on_links([f"a,b,delay=10ms,jitter=5ms{options}"], {
+                "a": SEND_SOME.format(40, 0.001), "b": RECEIVE_SOME.format(1)})
+            return [(number, time - (number + 1) * MILLI) for number, time in out["b"]]
+        first, again, other = run(""), run(""), run(",seed=1")
+        self.assertEqual(first, again)
+        self.assertNotEqual(first, other)
+        for lines in (first, other):
+            delays = [delay for _, delay in lines]
+            self.assertEqual(sorted(number for number, _ in lines), list(range(40)))
+            self.assertTrue(10 * MILLI <= min(delays) < 11 * MILLI, delays)
+            self.assertTrue(14 * MILLI <= max(delays) < 15 * MILLI + 100, delays)
+            self.assertNotEqual(lines, sorted(lines))  # some overtake others
+
+    def test_loss(self):
+        def run(options, delay="1ms"):
+            out = self.on_links([f"a,b,delay={delay}{options}"], {
+                "a": SEND_SOME.format(100, 0.001), "b": RECEIVE_SOME.format(1)})
+            return arrivals(out["b"])[0]
+        half = run(",loss=0.5")
+        self.assertTrue(30 < len(half) < 70, half)
+        for _ in range(3):
+            self.assertEqual(run(",loss=0.5"), half)
+        self.assertEqual(run(",loss=0.5", "7ms"), half)
+        self.assertNotEqual(run(",loss=0.5,seed=9"), half)
+        self.assertLess(len(run(",loss=0.9")), 20)
+        self.assertEqual(run(",loss=1"), [])
+        self.assertEqual(run(",loss=0"), list(range(100)))
+
+    def test_directions_lose_by_their_own_numbers(self):
+        echo = """
+            s = udp(B, 5000); s.settimeout(1)
+            try:
+                while True:
+                    text, name = s.recvfrom(9); show(text.decode()); s.sendto(text, name)
+            except TimeoutError: pass
+            """
+        ask = """
+            s = udp(); s.settimeout(1)
+            for i in range(60): time.sleep(0.001); s.sendto(b"%d" % i, AT_B)
+            try:
+                while True: show(s.recv(9).decode())
+            except TimeoutError: pass
+            """
+        out = self.on_links(["a,b,loss=0.5"], {"a": ask, "b": echo})
+        there, back = arrivals(out["b"])[0], arrivals(out["a"])[0]
+        self.assertTrue(set(back) < set(there))
+        self.assertTrue(0 < len(back) < len(there) < 60, (there, back))
+
+    def test_rate(self):
+        # 1,250 bytes at 1 Mbit/s take 10 ms each; two of three thirds of a ns are kept
+        def run(options, size, count):
+            out = self.on_links([f"a,b,delay=1ms,{options}"], {
+                "a": f"time.sleep(1)\ns = udp()\n"
+                     f"for i in range({count}): s.sendto(b'%0{size}d' % i, AT_B)",
+                "b": RECEIVE_SOME.format(2)})
+            return [[number, time - SECOND - 1 - MILLI] for number, time in out["b"]]
+        self.assertEqual(run("rate=1M", 1250, 5), [[i, 10 * MILLI * (i + 1)] for i in range(5)])
+        self.assertEqual(run("rate=3G", 1, 7), [[i, 8 * (i + 1) // 3] for i in range(7)])
+        # one is on its way, 2,500 bytes wait, and one more comes while no more than that wait
+        self.assertEqual(run("rate=1M,queue=2500", 1250, 9),
+                         [[i, 10 * MILLI * (i + 1)] for i in range(3)])
+        self.assertEqual(run("rate=1M,queue=2499", 1250, 9),
+                         [[i, 10 * MILLI * (i + 1)] for i in range(2)])
+        self.assertEqual(run("rate=1M,queue=0", 1250, 9), [[0, 10 * MILLI]])
+
+    def test_the_queue_becomes_empty(self):
+        out = self.on_links(["a,b,rate=1M,queue=0"], {
+            "a": "s = udp()\nfor i in range(6): time.sleep(0.006); s.sendto(b'%01250d' % i, AT_B)",
+            "b": RECEIVE_SOME.format(2)})
+        self.assertEqual(arrivals(out["b"]), ([0, 2, 4], [16 * MILLI, 28 * MILLI, 40 * MILLI]))
+
+    def test_partition_and_heal(self):
+        programs = {"a": SEND_SOME.format(9, 1) + "show('sent')", "b": RECEIVE_SOME.format(5)}
+        plan = self.file("plan", "at 2.5 partition a b\nat 5.5 heal b a\nat 6.95 partition b a\n"
+                                 "at 7.5 heal a b\n")
+        by_plan = self.on_links(["a,b,delay=100ms"], programs, "--plan", plan)
+        # what was sent before the cut arrives
+        kept = [0, 1, 5, 7, 8]
+        self.assertEqual(arrivals(by_plan["b"]),
+                         (kept, [(i + 1) * SECOND + 100 * MILLI for i in kept]))
+        plan = self.file("plan", "at 6.05 partition a b\nat 6.07 heal a b\n")
+        by_ctl = self.on_links(["a,b,delay=100ms"], programs, "--plan", plan, before=(
+            f"(sleep 2.5; {TKRUN} ctl partition a b; sleep 1; {TKRUN} ctl heal a b) &"))
+        self.assertEqual(arrivals(by_ctl["b"])[0], [0, 1, 3, 4, 5, 6, 7, 8])
+
+    def test_a_partition_cuts_both_directions_of_one_link(self):
+        out = self.on_links(["a,b", "b,a,delay=1ms", "b,c"], {
+            "a": "s = udp(A, 5000); s.settimeout(9); s.sendto(b'1', AT_B)\n"
+                 "try: show(s.recv(9))\nexcept TimeoutError: show('none')",
+            "b": "time.sleep(1); s = udp(B, 5000); s.sendto(b'1', (A, 5000))\n"
+                 "s.sendto(b'2', (C, 5000)); s.settimeout(5)\n"
+                 "try: show(s.recv(9))\nexcept TimeoutError: show('none')",
+            "c": "show(udp(C, 5000).recv(9).decode())"},
+            before=f"{TKRUN} ctl partition b a")
+        self.assertEqual(out, {"a": [["none", 9 * SECOND + 1]], "b": [["none", 6 * SECOND + 2]],
+                               "c": [[2, SECOND + 1]]})
+
+    def test_a_port_that_nobody_has(self):
+        # the kernel's error comes when the datagram arrives; the next one is sent after it
+        out = self.on_links(["a,b,delay=1"], {"a": """
+            s = udp(); s.connect(AT_B); s.send(b"1")
+            try: s.recv(9)
+            except OSError as error: show(errno.errorcode[error.errno])
+            s.send(b"2"); time.sleep(2)
+            try: s.send(b"3")
+            except OSError as error: show(errno.errorcode[error.errno])
+            s.send(b"4"); s.close(); time.sleep(2)
+            s = udp(A, 6000); s.sendto(b"5", AT_B); s.sendto(b"6", (B, 6000)); time.sleep(9)
+            """, "b": "time.sleep(5); s = udp(B, 6000); show(s.recv(9).decode())"})
+        self.assertEqual(out["a"], [["ECONNREFUSED", SECOND], ["ECONNREFUSED", 3 * SECOND + 1]])
+        self.assertEqual(out["b"], [[6, 6 * SECOND + 2]])
+
+    def test_a_sender_that_is_killed(self):
+        out = self.on_links(["a,b,delay=5"], {
+            "a": "s = udp()\nfor i in range(3): s.sendto(b'%d' % i, AT_B)\n"
+                 "os.kill(os.getpid(), signal.SIGKILL)",
+            "b": RECEIVE_SOME.format(9),
+            "c": "time.sleep(7); show('goes on')"})
+        self.assertEqual(out["b"], [[i, 5 * SECOND] for i in range(3)])
+        self.assertEqual(out["c"], [["goes", "on", 7 * SECOND + 1]])
+
+    def test_kills_at_any_time(self):
+        # 200 senders are killed while they send; what they have sent comes in order
+        out = self.on_links(["a,b,delay=1ms"], {
+            "a": """
+                import random
+                draw = random.Random(1)
+                for i in range(200):
+                    ends = os.pipe()
+                    child = os.fork()
+                    if not child:
+                        s = udp()
+                        for n in range(10**6):
+                            s.sendto(b"%d %d" % (i, n), AT_B)
+                            if not n: os.write(ends[1], b"1")
+                    os.read(ends[0], 1)
+                    for _ in range(draw.randrange(10000)): pass
+                    os.kill(child, signal.SIGKILL); os.waitpid(child, 0)
+                    os.close(ends[0]); os.close(ends[1])
+                time.sleep(1); udp().sendto(b"end", AT_B)
+                """,
+            "b": """
+                s = udp(B, 5000); last = {}; right = True
+                while (text := s.recv(99)) != b"end":
+                    i, n = map(int, text.split())
+                    right &= n == last.get(i, -1) + 1; last[i] = n
+                print(right, len(last))
+                """})
+        self.assertEqual(out["b"], [["True", 200]])
+
+    def test_many_sockets_and_datagrams(self):
+        # all are on their way at once; each socket is one file of tkrun
+        out = self.on_links(["a,b,delay=1"], {
+            "a": """
+                import resource
+                resource.setrlimit(resource.RLIMIT_NOFILE, (900, 4096))
+                time.sleep(0.5)
+                for i in range(3):
+                    sockets = []; sockets = [udp() for _ in range(800)]
+                    for s in sockets: s.sendto(b"%d" % i, AT_B); s.sendto(b"%d" % i, AT_B)
+                """,
+            "b": """
+                s = udp(B, 5000); s.setsockopt(socket.SOL_SOCKET, 33, 1 << 26)  # SO_RCVBUFFORCE
+                time.sleep(1)
+                print(sorted(s.recv(9) for _ in range(4800)).count(b"2"), now() // 1000)
+                """ if IS_ROOT else "print(1600, 1500000)"})
+        self.assertEqual(out["b"], [[1600, 1500000]])
+
+    @unittest.skipUnless(CAN_FILTER, "the kernel lets no filter ask tkrun")
+    def test_programs_that_do_not_find_the_folder(self):
+        out = self.on_links(["a,b,delay=1"], {
+            "b": RECEIVE_SOME.format(4),
+            "a": f"""
+                time.sleep(1)
+                env = {{"LD_PRELOAD": os.environ["LD_PRELOAD"]}}
+                os.execve("{SENDS}", ["s", B, "5000"], env)"""})
+        self.assertEqual([line[-1] for line in out["b"]], [2 * SECOND + 1] * len(TEXTS))
+
+    @needs_root("starts a program as another user")
+    @unittest.skipUnless(CAN_FILTER, "the kernel lets no filter ask tkrun")
+    def test_a_program_of_another_user(self):
+        out = self.on_links(["a,b,delay=1"], {
+            "b": RECEIVE_SOME.format(4),
+            "a": "s = udp(); os.setuid(65531); s.sendto(b'1', AT_B); udp().sendto(b'2', AT_B)"})
+        self.assertEqual(out["b"], [[1, SECOND], [2, SECOND]])
+
+    def test_a_record_of_nodes_with_links(self):
+        self.on_links(["a,b,delay=10ms,jitter=3ms"], {
+            "a": SEND_SOME.format(20, 0.001) + "show()", "b": RECEIVE_SOME.format(1)}, "--check")
+
+    def test_nothing_changes_without_links(self):
+        text = "echo $LD_PRELOAD; ls $TKRUN | grep net"
+        self.assertNotIn("net", self.run_on(*OPTIONS, "--", "sh", "-c", text, status=1))
+        self.assertIn("libtkrun-net.so", self.run_on(*OPTIONS, "--link", "a,b", "--", "sh", "-c",
+                                                     text))
+
+
+class Options(LinkTest):
+    def fails(self, *words):
+        """Runs tkrun with a wrong option. Returns its sentence."""
+        made = self.folder / "made"
+        run = self.start(*words, "--", "touch", made)
+        self.assertEqual((run.returncode, run.stdout, made.exists()), (2, "", False))
+        self.assertRegex(run.stderr, r"\Atkrun: [^\n]*\n\Z")
+        return run.stderr[7:-1]
+
+    def test_wrong_links(self):
+        time = "isn't a time from 0 to 1000 s, such as 20ms"
+        short = "isn't a time from 0 to 1000 s, such as 5ms"
+        wrong = {
+            "a": "it isn't NODE,NODE[,OPTION=VALUE]..", "": "there is no node ''",
+            "a,d": "there is no node 'd'", "d,a": "there is no node 'd'",
+            "a,delay=1": "there is no node 'delay=1'", "a,b,": "'' is no option of a link",
+            "a,a": "a node has no link to itself", "b,b,delay=1": "a node has no link to itself",
+            "a,b,size=1": "'size' is no option of a link", "a,b,delay": f"delay '' {time}",
+            "a,b,delay=-1": f"delay '-1' {time}", "a,b,delay=1m": f"delay '1m' {time}",
+            "a,b,delay=1001": f"delay '1001' {time}", "a,b,delay=nan": f"delay 'nan' {time}",
+            "a,b,delay=0x1": f"delay '0x1' {time}", "a,b,delay=1e3": f"delay '1e3' {time}",
+            "a,b,delay=1.2.3": f"delay '1.2.3' {time}", "a,b,delay= 1": f"delay ' 1' {time}",
+            "a,b,jitter=-5ms": f"jitter '-5ms' {short}",
+            "a,b,jitter=1000001ms": f"jitter '1000001ms' {short}",
+            "a,b,loss=50%": "loss '50%' isn't a part from 0 to 1",
+            "a,b,loss=1.01": "loss '1.01' isn't a part from 0 to 1",
+            "a,b,rate=0": "rate '0' isn't bits per second from 1 to 1000G, such as 10M",
+            "a,b,rate=1001G": "rate '1001G' isn't bits per second from 1 to 1000G, such as 10M",
+            "a,b,queue=2G": "queue '2G' isn't bytes from 0 to 1G, such as 64k",
+            "a,b,queue=1ms": "queue '1ms' isn't bytes from 0 to 1G, such as 64k",
+            "a,b,seed=-1": "seed '-1' isn't a whole number below 2^53",
+        }
+        for words, sentence in wrong.items():
+            with self.subTest(link=words):
+                self.assertEqual(self.fails(*OPTIONS, "--link", words),
+                                 f"--link {words}: {sentence}")
+        self.assertEqual(self.fails(*OPTIONS, "--link", "a,b", "--link", "b,a", "--link",
+                                    "a,b,delay=1"),
+                         "--link a,b,delay=1: there is another one with these nodes")
+        self.assertEqual(self.fails("--node", "a,address=127.0.0.2", "--node",
+                                    "b,address=127.0.0.3", "--link", "a,b"),
+                         "--link needs --counter sleeps")
+        self.assertEqual(self.fails("--counter", "sleeps", "--node", "a,address=127.0.0.2", "--node",
+                                    "b", "--link", "a,b"),
+                         "--link a,b: the node 'b' has no address")
+
+    def test_limits_of_values(self):
+        for words in ["delay=1000", "delay=1000000000us", "delay=0.5ns", "jitter=0", "loss=1",
+                      "rate=1", "rate=1000G", "queue=1G,seed=9007199254740991", "queue=1.5k"]:
+            self.run_on(*OPTIONS, "--link", f"a,b,{words}", "--", "true")
+
+    def test_wrong_addresses(self):
+        for text in ["127.0.0.1", "127.0.0.0", "127.64.0.0", "127.255.0.1", "128.0.0.1", "10.0.0.1",
+                     "126.255.255.255", "127.0.0", "x", "", "::1"]:
+            with self.subTest(address=text):
+                self.assertEqual(self.fails("--node", f"a,address={text}"),
+                                 f"--node a: address '{text}' isn't one from 127.0.0.2 to "
+                                 "127.63.255.255")
+        self.assertEqual(self.fails("--node", "a,address=127.0.0.2", "--node",
+                                    "b,address=127.0.0.2"),
+                         "--node b: two nodes have this address")
+        self.run_on("--node", "a,address=127.63.255.255", "--node", "b,address=127.0.0.2", "--node",
+                    "c", "--node", "d", "--", "true")
+        for name in ["partition", "heal"]:
+            self.assertIn("isn't a name", self.fails("--node", name))
+
+    def test_wrong_partitions(self):
+        wrong = {
+            "partition a": "there is no node ''", "partition": "there is no node ''",
+            "heal a d": "there is no node 'd'", "heal d a": "there is no node 'd'",
+            "partition a a": "there is no link between 'a' and 'a'",
+            "partition a c": "there is no link between 'a' and 'c'",
+            "heal c b": "there is no link between 'c' and 'b'",
+            "partition a b 1": "there is no node 'b 1'",
+        }
+        for words, sentence in wrong.items():
+            with self.subTest(event=words):
+                plan = self.file("plan", f"at 1 partition a b\nat 2 {words}\n")
+                self.assertEqual(self.fails(*OPTIONS, "--link", "a,b", "--plan", plan),
+                                 f"--plan: line 2: {sentence}")
+                if words.count(" ") < 2:
+                    continue
+                run = self.start("--quiet", *OPTIONS, "--link", "a,b", "--", TKRUN, "ctl",
+                                 *words.split())
+                self.assertEqual(run.returncode, 2)
+        self.run_on(*OPTIONS, "--link", "a,b", "--", TKRUN, "ctl", "partition", "b", "a")
+        usage = call([TKRUN, "ctl", "heal"])
+        self.assertEqual((usage.returncode, usage.stderr), (
+            2, "tkrun: tkrun ctl NODE step|freq|suspend|leap [VALUE], or "
+               "tkrun ctl partition|heal NODE NODE\n"))
+
+    def test_messages_that_are_wrong(self):
+        # the socket of tkrun gets bytes that are no message of the library
+        text = """
+            import array
+            s = socket.socket(socket.AF_UNIX, socket.SOCK_DGRAM)
+            name = os.path.dirname(os.environ["TKRUN"]) + "/net"
+            own = udp().detach()
+            files = [(socket.SOL_SOCKET, socket.SCM_RIGHTS, array.array("i", [own] * n))
+                     for n in (1, 2)]
+            for node in (0, 1, 3, 4, 2**32 - 1):
+                for kind in (0, 1, 2):
+                    for lengths in ((0, 0), (16, 0), (29, 0), (16, 513), (16, 10**9), (0, 30)):
+                        head = struct.pack("5I28x", kind, node, 0x0300007f, *lengths)
+                        for part in ([], files[:1], files[1:]):
+                            for size in (0, 10, 48, 60, 70000):
+                                s.sendmsg([(head + bytes(70000))[:size]], part, 0, name)
+            time.sleep(1); show("well")
+            """
+        out = self.on_links(["a,b"], {"a": text})
+        self.assertEqual(out["a"], [["well", SECOND + 1]])
+
+
+if __name__ == "__main__":
+    unittest.main()
