@@ -9,7 +9,14 @@
 #include <netinet/in.h>
 #include <stdint.h>
 
-enum message_kind { MESSAGE_DATAGRAM };
+enum message_kind {
+	MESSAGE_DATAGRAM, /* to be sent when it arrives */
+	MESSAGE_CONNECT	  /* to be connected; a second file gets the errno of connect(2) */
+};
+
+/* tkrun ends an attempt to connect a socket that doesn't block by its TCP_USER_TIMEOUT, which has no
+ * effect then: this number with the errno in its low bits. */
+enum { FAILURE = 0x746b0000, FAILURE_ERRORS = 0xffff };
 
 /* The most bytes of control data, and of a datagram of UDP. */
 enum { CONTROL_MOST = 512, DATAGRAM_MOST = 65507 };

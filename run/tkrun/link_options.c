@@ -2,6 +2,7 @@
 /* link_options.c - parses --link NODE,NODE[,OPTION=VALUE].. and the addresses of nodes. */
 #define _GNU_SOURCE
 #include "options.h"
+#include "net/relays.h"
 
 #include <arpa/inet.h>
 #include <math.h>
@@ -10,9 +11,6 @@
 #include <string.h>
 
 enum { QUEUE_BYTES = 1000000 };
-
-/* 127.64.0.0 */
-#define RELAYS_FIRST UINT32_C(0x7f400000)
 
 /* A unit, and by how much its numbers are multiplied. */
 struct unit {

@@ -147,6 +147,8 @@ static bool take(uint64_t now)
 		return false;
 	if (!is_whole(message, (size_t)length) || files[0] < 0)
 		close_all(files);
+	else if (message->kind == MESSAGE_CONNECT)
+		take_connection(message, files[0], files[1], now);
 	else
 		take_datagram(message, parcel.bytes,
 			      (size_t)length - sizeof(*message) - message->control_length, files[0],
@@ -158,13 +160,14 @@ static bool take(uint64_t now)
 bool net_serve(uint64_t now)
 {
 	static bool is_raised;
-	bool is_any = false;
+	bool is_any;
 
 	if (inbox < 0)
 		return false;
 	if (!is_raised)
 		raise_limit();
 	is_raised = true;
+	is_any = streams_read(now);
 	while (flights_count() < FLIGHTS_MOST && take(now))
 		is_any = true;
 	return is_any || flights_arrive(now);
@@ -172,5 +175,7 @@ bool net_serve(uint64_t now)
 
 uint64_t net_next(void)
 {
-	return flights_next();
+	uint64_t flight = flights_next(), stream = streams_next();
+
+	return flight < stream ? flight : stream;
 }

@@ -36,8 +36,9 @@ void links_cut(size_t one, size_t other, bool is_cut);
 /* Returns whether a link loses what is sent now, at random or since it is cut. */
 bool link_loses(struct link *link);
 
-/* Returns whether more bytes wait for the rate than the queue may have. */
+/* Returns whether more bytes wait for the rate than the queue may have, and when it has room. */
 bool link_is_full(const struct link *link, uint64_t now);
+uint64_t link_room_at(const struct link *link);
 
 /* Returns when some bytes arrive that are sent now. */
 uint64_t link_arrival(struct link *link, uint64_t now, size_t bytes);
@@ -58,9 +59,41 @@ size_t flights_count(void);
 /* Lets the first flight arrive, if its time has come. Returns whether there was one. */
 bool flights_arrive(uint64_t now);
 
-/* Sends a datagram at the wish of a program. It closes the file. */
+/* Send a datagram, and connect a socket, at the wish of a program. They close the files. */
 void take_datagram(const struct message *message, const char *bytes, size_t length, int file,
 		   uint64_t now);
+void take_connection(const struct message *message, int file, int answer, uint64_t now);
+
+/* A connection to a server that is to be made. */
+struct opening;
+
+/* Returns whether a program listens at a name. */
+bool opening_is_heard(const struct sockaddr_in *server);
+
+/* Makes an opening, whose server will see the client's name. */
+struct opening *opening_begin(const struct sockaddr_in *client, const struct sockaddr_in *server);
+
+/* Stores the file of the connection, or -1. Returns an errno, and EINPROGRESS if the server can't
+ * accept yet. */
+int opening_try(struct opening *opening, int *file);
+void opening_end(struct opening *opening);
+
+/* Makes a socket of TCP for tkrun's end of a connection, which may share its address. */
+int net_make_socket(void);
+
+/* Returns the error of a socket that is connecting, EINPROGRESS if it still is, or 0. */
+int net_state_of(int file, int millis);
+
+/* Joins two connections, the server's when the client's last packet has arrived: what tkrun reads
+ * from one of them is sent to the other one. `client` is tkrun's end of the client's connection,
+ * which is on node `from`. Closes the file, and ends the opening. */
+void stream_open(int client, struct opening *opening, size_t from, size_t to, uint64_t now);
+
+/* Reads what programs have written to all streams. Returns whether there was something. */
+bool streams_read(uint64_t now);
+
+/* Returns when a stream can be read again whose link is full now, or NEVER. */
+uint64_t streams_next(void);
 
 /* Opens the socket, if there are links, and removes its name. */
 void net_open(struct run *run);

@@ -87,6 +87,14 @@ bool link_is_full(const struct link *link, uint64_t now)
 	return link->options.rate && backlog(link, now) > link->options.queue;
 }
 
+uint64_t link_room_at(const struct link *link)
+{
+	unsigned __int128 bits = (unsigned __int128)link->options.queue * 8 * NANOS;
+	uint64_t span = (uint64_t)(bits / link->options.rate);
+
+	return link->busy > span ? link->busy - span : 0;
+}
+
 /* Returns when the rate has let some bytes go. */
 static uint64_t departure(struct link *link, uint64_t now, size_t bytes)
 {

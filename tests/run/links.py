@@ -9,7 +9,9 @@ SECOND = 10**9
 MILLI = 10**6
 START = 2000  # the REALTIME of all nodes, in s, when a run starts
 # no other test that runs now has these
-NETWORK = "127.{}.{}.".format(*random.Random(os.getpid()).sample(range(1, 64), 2))
+DRAW = random.Random(os.getpid())
+NETWORK = "127.{}.{}.".format(*DRAW.sample(range(1, 64), 2))
+PORT = DRAW.randrange(10000, 32000)  # the kernel chooses none of these
 ADDRESSES = {name: f"{NETWORK}{i + 1}" for i, name in enumerate("abc")}
 OPTIONS = [*STILL, "--start", START]
 for NAME, ADDRESS in ADDRESSES.items():
@@ -17,7 +19,8 @@ for NAME, ADDRESS in ADDRESSES.items():
 
 PRELUDE = f"""import errno, os, select, signal, socket, struct, sys, time
 A, B, C = {tuple(ADDRESSES.values())}
-AT_B = B, 5000
+PORT = {PORT}
+AT_B = B, PORT
 def now(): return time.clock_gettime_ns(time.CLOCK_REALTIME) - {START} * 10**9
 def show(*words): print(*words, now(), flush=True)
 def udp(*name):
@@ -28,12 +31,14 @@ def udp(*name):
 
 
 class LinkTest(RunTest):
+    prelude = PRELUDE
+
     def script(self, programs, before=""):
         """A shell script that runs a Python program on each node, and waits for all. Those that
         still wait after a long time of the clocks are killed."""
         lines = [before]
         for name, text in programs.items():
-            path = self.file(f"{name}.py", PRELUDE + textwrap.dedent(text))
+            path = self.file(f"{name}.py", self.prelude + textwrap.dedent(text))
             lines.append(f"{TKRUN} node {name} -- python3 -B {path} >{self.folder}/{name} 2>&1 & "
                          "P=\"$P $!\"")
         lines.append("exec 2>/dev/null; { sleep 100000; kill -9 $P; } & wait $P; true")

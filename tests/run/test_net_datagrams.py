@@ -2,7 +2,7 @@
 sleep of a second ends 1 ns after it."""
 import unittest
 
-from links import ADDRESSES, MILLI, NETWORK, OPTIONS, SECOND, LinkTest
+from links import ADDRESSES, MILLI, OPTIONS, PORT, SECOND, LinkTest
 from runs import CAN_FILTER, IS_ROOT, TKRUN, call, needs_root, program
 
 SENDS = program("net_sends")
@@ -10,7 +10,7 @@ SENDS = program("net_sends")
 TEXTS = ["sendmsg", "send", "msgmmsg", "sendto", "sendmsg", "send", "msgmmsg", "connected", "write",
          "writev", "", "", "control", "65507"]
 RECEIVE_ALL = """
-    s = udp("", 5000)
+    s = udp("", PORT)
     while True:
         text, name = s.recvfrom(70000)
         show(text.decode() if len(text) < 100 else len(text), name[0])
@@ -19,7 +19,7 @@ RECEIVE_ALL = """
 # sends some datagrams with their numbers, and waits before each
 SEND_SOME = "s = udp()\nfor i in range({0}): time.sleep({1}); s.sendto(b'%d' % i, AT_B)\n"
 RECEIVE_SOME = """
-    s = udp(B, 5000)
+    s = udp(*AT_B)
     s.settimeout({0})
     try:
         while True: show(s.recv(1 << 16).decode())
@@ -38,7 +38,7 @@ class Datagrams(LinkTest):
             with self.subTest(address=address):
                 out = self.on_links(["a,b,delay=20ms"], {
                     "b": RECEIVE_ALL,
-                    "a": f"time.sleep(1); os.execv('{SENDS}', ['s', '{address}', '5000'])"})
+                    "a": f"time.sleep(1); os.execv('{SENDS}', ['s', '{address}', str(PORT)])"})
                 self.assertEqual(out["a"], [])
                 texts = [int(text) if text.isdigit() else text for text in TEXTS]
                 names = [ADDRESSES["a"]] * len(TEXTS)
@@ -51,7 +51,7 @@ class Datagrams(LinkTest):
         # 10 ms there and 30 ms back
         out = self.on_links(["a,b,delay=10ms", "b,a,delay=0.03"], {
             "b": """
-                s = udp(B, 5000)
+                s = udp(*AT_B)
                 for _ in range(2):
                     text, name = s.recvfrom(10); show(text.decode()); s.sendto(text, name)
                 """,
@@ -80,7 +80,7 @@ class Datagrams(LinkTest):
         body = "\n    ".join(f"{wait}; show('got')" for wait in waits)
         out = self.on_links(["a,b,delay=1"], {
             "b": f"""
-    s = udp(B, 5000)
+    s = udp(*AT_B)
     poll = select.poll(); poll.register(s, select.POLLIN)
     epoll = select.epoll(); epoll.register(s, select.EPOLLIN)
     {body}
@@ -97,13 +97,13 @@ class Datagrams(LinkTest):
             "b": RECEIVE_SOME.format(3),
             "a": """
                 time.sleep(1)
-                own = udp(A, 6000); udp().sendto(b"own", (A, 6000)); show(own.recv(9).decode())
+                own = udp(A, PORT + 1); udp().sendto(b"own", (A, PORT + 1)); show(own.recv(9).decode())
                 own = udp("127.0.0.1", 0); udp().sendto(b"host", own.getsockname())
                 show(own.recv(9).decode())
                 """,
             "c": "time.sleep(1); udp().sendto(b'c', AT_B)"},
             before="python3 -c \"import socket, time; time.sleep(0.5); socket.socket(socket.AF_INET, "
-                   "socket.SOCK_DGRAM).sendto(b'p', ('{}', 5000))\" &".format(ADDRESSES["b"]))
+                   "socket.SOCK_DGRAM).sendto(b'p', ('{}', {}))\" &".format(ADDRESSES["b"], PORT))
         self.assertEqual(out["b"], [["p", SECOND // 2 + 1], ["c", SECOND + 1]])
         self.assertEqual(out["a"], [["own", SECOND + 1], ["host", SECOND + 1]])
 
@@ -139,7 +139,7 @@ class Datagrams(LinkTest):
 
     def test_directions_lose_by_their_own_numbers(self):
         echo = """
-            s = udp(B, 5000); s.settimeout(1)
+            s = udp(*AT_B); s.settimeout(1)
             try:
                 while True:
                     text, name = s.recvfrom(9); show(text.decode()); s.sendto(text, name)
@@ -196,12 +196,12 @@ class Datagrams(LinkTest):
 
     def test_a_partition_cuts_both_directions_of_one_link(self):
         out = self.on_links(["a,b", "b,a,delay=1ms", "b,c"], {
-            "a": "s = udp(A, 5000); s.settimeout(9); s.sendto(b'1', AT_B)\n"
+            "a": "s = udp(A, PORT); s.settimeout(9); s.sendto(b'1', AT_B)\n"
                  "try: show(s.recv(9))\nexcept TimeoutError: show('none')",
-            "b": "time.sleep(1); s = udp(B, 5000); s.sendto(b'1', (A, 5000))\n"
-                 "s.sendto(b'2', (C, 5000)); s.settimeout(5)\n"
+            "b": "time.sleep(1); s = udp(*AT_B); s.sendto(b'1', (A, PORT))\n"
+                 "s.sendto(b'2', (C, PORT)); s.settimeout(5)\n"
                  "try: show(s.recv(9))\nexcept TimeoutError: show('none')",
-            "c": "show(udp(C, 5000).recv(9).decode())"},
+            "c": "show(udp(C, PORT).recv(9).decode())"},
             before=f"{TKRUN} ctl partition b a")
         self.assertEqual(out, {"a": [["none", 9 * SECOND + 1]], "b": [["none", 6 * SECOND + 2]],
                                "c": [[2, SECOND + 1]]})
@@ -216,8 +216,8 @@ class Datagrams(LinkTest):
             try: s.send(b"3")
             except OSError as error: show(errno.errorcode[error.errno])
             s.send(b"4"); s.close(); time.sleep(2)
-            s = udp(A, 6000); s.sendto(b"5", AT_B); s.sendto(b"6", (B, 6000)); time.sleep(9)
-            """, "b": "time.sleep(5); s = udp(B, 6000); show(s.recv(9).decode())"})
+            s = udp(A, PORT + 1); s.sendto(b"5", AT_B); s.sendto(b"6", (B, PORT + 1)); time.sleep(9)
+            """, "b": "time.sleep(5); s = udp(B, PORT + 1); show(s.recv(9).decode())"})
         self.assertEqual(out["a"], [["ECONNREFUSED", SECOND], ["ECONNREFUSED", 3 * SECOND + 1]])
         self.assertEqual(out["b"], [[6, 6 * SECOND + 2]])
 
@@ -251,7 +251,7 @@ class Datagrams(LinkTest):
                 time.sleep(1); udp().sendto(b"end", AT_B)
                 """,
             "b": """
-                s = udp(B, 5000); last = {}; right = True
+                s = udp(*AT_B); last = {}; right = True
                 while (text := s.recv(99)) != b"end":
                     i, n = map(int, text.split())
                     right &= n == last.get(i, -1) + 1; last[i] = n
@@ -271,7 +271,7 @@ class Datagrams(LinkTest):
                     for s in sockets: s.sendto(b"%d" % i, AT_B); s.sendto(b"%d" % i, AT_B)
                 """,
             "b": """
-                s = udp(B, 5000); s.setsockopt(socket.SOL_SOCKET, 33, 1 << 26)  # SO_RCVBUFFORCE
+                s = udp(*AT_B); s.setsockopt(socket.SOL_SOCKET, 33, 1 << 26)  # SO_RCVBUFFORCE
                 time.sleep(1)
                 print(sorted(s.recv(9) for _ in range(4800)).count(b"2"), now() // 1000)
                 """ if IS_ROOT else "print(1600, 1500000)"})
@@ -284,7 +284,7 @@ class Datagrams(LinkTest):
             "a": f"""
                 time.sleep(1)
                 env = {{"LD_PRELOAD": os.environ["LD_PRELOAD"]}}
-                os.execve("{SENDS}", ["s", B, "5000"], env)"""})
+                os.execve("{SENDS}", ["s", B, str(PORT)], env)"""})
         self.assertEqual([line[-1] for line in out["b"]], [2 * SECOND + 1] * len(TEXTS))
 
     @needs_root("starts a program as another user")

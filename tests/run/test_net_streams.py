@@ -1,0 +1,475 @@
+"""Connections of TCP between nodes with --link. All times are computed here: a program starts at 0,
+and a sleep of a second ends 1 ns after it."""
+import unittest
+import zlib
+
+from links import ADDRESSES, MILLI, PORT, PRELUDE, SECOND, LinkTest
+from runs import TKRUN
+
+WINDOW = 4 << 20  # the most bytes of one direction on their way
+# serve prints when a connection, its first bytes and its end have come, and how many bytes with
+# which sum; connect_later doesn't block
+FUNCTIONS = PRELUDE + """
+import zlib
+def listen():
+    global listener
+    listener = socket.create_server(AT_B)
+    listener.settimeout(200)
+def serve(name=""):
+    s, peer = listener.accept()
+    show(name + "accepted", peer == s.getpeername(), peer[0])
+    total = check = 0
+    while data := s.recv(1 << 20):
+        if not total: show(name + "first")
+        total += len(data); check = zlib.crc32(data, check)
+    show(name + "end", total, check)
+    return s
+def connect(to=AT_B, name=None):
+    s = socket.socket()
+    if name: s.bind(name)
+    try: s.connect(to); show("connected", s.getpeername() == to)
+    except OSError as error: show(errno.errorcode[error.errno])
+    return s
+def connect_later(to=AT_B):
+    s = socket.socket(); s.setblocking(False)
+    show(errno.errorcode[s.connect_ex(to)])
+    poll = select.poll(); poll.register(s, select.POLLOUT)
+    poll.poll()
+    error = s.getsockopt(socket.SOL_SOCKET, socket.SO_ERROR)
+    show(errno.errorcode[error] if error else "connected")
+    return s
+"""
+THERE, BACK = 10 * MILLI, 30 * MILLI
+LINKS = ["a,b,delay=10ms", "b,a,delay=30ms"]
+NOW = SECOND + 1  # after the client's sleep
+
+
+class Connections(LinkTest):
+    prelude = FUNCTIONS
+
+    def test_bytes_both_ways(self):
+        out = self.on_links(LINKS, {
+            "b": "listen(); s = serve(); s.sendall(b'back'); s.close(); show('closed')",
+            "a": """
+    time.sleep(1)
+    s = connect(); show(s.getsockname()[0]); s.sendall(b"one"); time.sleep(1); s.sendall(b"two")
+    s.shutdown(socket.SHUT_WR); show(s.recv(9).decode()); show(s.recv(9))
+    """})
+        connected = NOW + THERE + BACK
+        end = connected + SECOND + 1 + THERE
+        self.assertEqual(out["b"], [
+            ["accepted", "True", ADDRESSES["a"], connected + THERE],
+            ["first", connected + THERE], ["end", 6, zlib.crc32(b"onetwo"), end], ["closed", end]])
+        self.assertEqual(out["a"], [
+            ["connected", "True", connected], [ADDRESSES["a"], connected],
+            ["back", end + BACK], ["b''", end + BACK]])
+
+    def test_a_socket_that_does_not_block(self):
+        out = self.on_links(LINKS, {
+            "b": "listen(); serve()",
+            "a": """
+    time.sleep(1)
+    s = connect_later(); show(s.getpeername() == AT_B, s.connect_ex(AT_B), errno.errorcode[s.connect_ex(AT_B)])
+    s.send(b"123456789")
+    """})
+        connected = NOW + THERE + BACK
+        self.assertEqual(out["a"], [["EINPROGRESS", NOW], ["connected", connected],
+                                    ["True", 0, "EISCONN", connected]])
+        self.assertEqual(out["b"][1:], [["first", connected + THERE],
+                                        ["end", 9, zlib.crc32(b"123456789"), connected + THERE]])
+
+    def test_waits_for_a_connection(self):
+        # each way to wait finds out when it is there, and not before
+        out = self.on_links(["a,b,delay=1"], {
+            "b": "l = socket.create_server(AT_B)\nfor _ in range(4): l.accept()",
+            "a": """
+    import asyncio
+    def begin():
+        s = socket.socket(); s.setblocking(False)
+        show(errno.errorcode[s.connect_ex(AT_B)], errno.errorcode[s.connect_ex(AT_B)])
+        return s
+    s = begin(); show(*map(len, select.select([], [s], [], 1.5))); select.select([], [s], []); show()
+    s = begin(); epoll = select.epoll(); epoll.register(s, select.EPOLLOUT | select.EPOLLET)
+    show(epoll.poll(1.5)); show(len(epoll.poll()))
+    s = socket.create_connection(AT_B, timeout=5); show(s.getpeername() == AT_B)
+    async def main():
+        reader, writer = await asyncio.open_connection(*AT_B); show(); writer.close()
+    asyncio.run(main())
+    """})
+        start = out["a"][0][-1]
+        rounded = [[*line[:-1], (line[-1] - start) // 1000 * 1000] for line in out["a"]]
+        begun = ["EINPROGRESS", "EALREADY"]
+        self.assertEqual(rounded, [
+            [*begun, 0], [0, 0, 0, 1500 * MILLI], [2 * SECOND],
+            [*begun, 2 * SECOND], ["[]", 3500 * MILLI], [1, 4 * SECOND],
+            ["True", 6 * SECOND], [8 * SECOND]])
+
+    def test_sockets_of_ipv6_with_addresses_of_ipv4(self):
+        out = self.on_links(LINKS, {
+            "b": """
+    l = socket.socket(socket.AF_INET6); l.bind(("::", PORT)); l.listen(5)
+    s, peer = l.accept(); show(peer[0]); show(s.recv(9).decode())
+    """,
+            "a": """
+    time.sleep(1)
+    s = socket.socket(socket.AF_INET6); name = ("::ffff:" + B, PORT, 0, 0)
+    s.connect(name); show(s.getpeername() == name, s.getsockname()[0]); s.send(b"six")
+    s = socket.socket(socket.AF_INET6); s.setblocking(False)
+    show(errno.errorcode[s.connect_ex((name[0], PORT + 1))]); select.select([], [s], [])
+    show(errno.errorcode[s.getsockopt(socket.SOL_SOCKET, socket.SO_ERROR)])
+    """})
+        connected = NOW + THERE + BACK
+        self.assertEqual(out["b"], [["::ffff:" + ADDRESSES["a"], connected + THERE],
+                                    ["six", connected + THERE]])
+        self.assertEqual(out["a"], [["True", "::ffff:" + ADDRESSES["a"], connected],
+                                    ["EINPROGRESS", connected],
+                                    ["ECONNREFUSED", connected + THERE + BACK]])
+
+    def test_the_client_keeps_its_port(self):
+        out = self.on_links(LINKS, {
+            "b": "l = socket.create_server(AT_B)\n"
+                 "for _ in range(3): show(l.accept()[1][1])",
+            "a": "time.sleep(1); connect(name=(A, 7001)); connect(name=('', 7002)); connect()\n"
+                 "show(socket.socket().getsockopt(1, 2))"})
+        self.assertEqual([line[0] for line in out["b"][:2]], [7001, 7002])
+        self.assertGreater(out["b"][2][0], 7002)
+        self.assertEqual([line[0] for line in out["a"]], ["connected"] * 3 + [0])
+
+    def test_a_port_that_nobody_has(self):
+        for connect in ("connect", "connect_later"):
+            out = self.on_links(LINKS, {"a": f"""
+    time.sleep(1)
+    s = {connect}(); show(s.getsockopt(socket.SOL_SOCKET, socket.SO_ERROR))
+    time.sleep(1); s.setblocking(True)
+    try: s.connect(AT_B)
+    except OSError as error: show(errno.errorcode[error.errno])
+    """})
+            self.assertEqual(out["a"][-3:], [["ECONNREFUSED", NOW + THERE + BACK],
+                                             [0, NOW + THERE + BACK],
+                                             ["ECONNREFUSED", NOW + SECOND + 1 + 2 * (THERE + BACK)]])
+
+    def test_a_partition(self):
+        for connect in ("connect", "connect_later"):
+            plan = self.file("plan", "at 0.5 partition a b\nat 500 heal a b\n")
+            out = self.on_links(LINKS, {"b": "listen(); serve()", "a": f"time.sleep(1); {connect}()"},
+                                "--plan", plan)
+            self.assertEqual(out["a"][-1], ["ETIMEDOUT", NOW + 127 * SECOND])
+
+    def test_the_first_packets_are_sent_again(self):
+        # tries at 1, 2, 4, 8 and 16 s; the link is cut for the answer of that at 4 s
+        plan = self.file("plan", "at 0.5 partition a b\nat 3.5 heal a b\nat 4.005 partition a b\n"
+                                 "at 4.02 heal a b\nat 4.1 partition a b\nat 10 heal a b\n")
+        for connect in ("connect", "connect_later"):
+            out = self.on_links(LINKS, {"b": "listen(); serve()", "a": f"time.sleep(1); {connect}(); time.sleep(9)"},
+                                "--plan", plan)
+            connected = 16 * SECOND + 1 + THERE + BACK
+            self.assertEqual(out["a"][-1], ["connected"] + ["True"] * (connect == "connect") +
+                             [connected])
+            self.assertEqual(out["b"][0], ["accepted", "True", ADDRESSES["a"], connected + THERE])
+
+    def test_lost_packets_of_connections(self):
+        # each direction loses half of them: a connection takes 1, 3, 7, .. s more for lost ones
+        def run(seed):
+            out = self.on_links([f"a,b,delay=1ms,loss=0.5,seed={seed}"], {
+                "b": "l = socket.create_server(AT_B)\nwhile True: l.accept()",
+                "a": """
+    time.sleep(1)
+    for _ in range(20):
+        start = now(); connect(); show(now() - start)
+    """})
+            return [line[0] for line in out["a"] if line[0] not in ("connected", "ETIMEDOUT")]
+        spans = run(3)
+        self.assertEqual(run(3), spans)
+        self.assertNotEqual(run(4), spans)
+        tries = [(2**i - 1) * SECOND + 2 * MILLI for i in range(7)] + [127 * SECOND]
+        self.assertLessEqual(set(spans), set(tries))
+        self.assertGreater(len(set(spans)), 2)
+
+    def test_a_signal_interrupts_connect(self):
+        out = self.on_links(["a,b,delay=1"], {
+            "b": "listen(); serve()",
+            "a": """
+    import ctypes
+    libc = ctypes.CDLL(None, use_errno=True)
+    libc.siginterrupt(signal.SIGALRM, 1)
+    handler = ctypes.CFUNCTYPE(None, ctypes.c_int)(lambda number: None)
+    class Action(ctypes.Structure):
+        _fields_ = [("handler", type(handler)), ("rest", ctypes.c_char * 144)]
+    action = Action(handler); libc.sigaction(signal.SIGALRM, ctypes.byref(action), None)
+    signal.setitimer(signal.ITIMER_REAL, 0.5)
+    s = socket.socket()
+    name = struct.pack("!H2s4s8x", 0, struct.pack("!H", PORT), socket.inet_aton(B))
+    name = struct.pack("H", socket.AF_INET) + name[2:]
+    show(libc.connect(s.fileno(), name, 16), errno.errorcode[ctypes.get_errno()])
+    select.select([], [s], []); show(s.getsockopt(socket.SOL_SOCKET, socket.SO_ERROR))
+    s.send(b"x")
+    """})
+        self.assertEqual([line[:-1] for line in out["a"]], [[-1, "EINTR"], [0]])
+        self.assertEqual([line[-1] // 1000 for line in out["a"]], [500000, 2000000])
+        self.assertEqual(out["b"][1], ["first", 3 * SECOND])
+
+    def test_only_the_linked_nodes_have_delays(self):
+        out = self.on_links(["a,b,delay=1"], {
+            "b": "l = socket.create_server(('', PORT))\nfor _ in range(2): l.accept(); show()",
+            "c": "time.sleep(1); connect()"},
+            before=f"{TKRUN} node b -- python3 -c \"import socket, time; time.sleep(0.5); "
+                   f"socket.create_connection(('{ADDRESSES['b']}', {PORT}))\" &")
+        self.assertEqual(out["b"], [[SECOND // 2 + 1], [NOW]])
+        self.assertEqual(out["c"], [["connected", "True", NOW]])
+
+
+class Streams(LinkTest):
+    prelude = FUNCTIONS
+
+    def test_a_rate(self):
+        # 10 MB at 10 Mbit/s take 8 s, in whatever pieces they are written
+        all_at_once = "s.sendall(bytes(10**7))"
+        pieces = "for i in range(1000): s.sendall(bytes(10**4))"
+        polled = ("s.setblocking(False); p = select.poll(); p.register(s, select.POLLOUT)\n"
+                  "left = 10**7\nwhile left: p.poll(); left -= s.send(bytes(min(left, 70000)))")
+        for rate, seconds, write in [("10M", 8, all_at_once), ("100M", 0.8, pieces),
+                                     ("100M", 0.8, polled)]:
+            out = self.on_links([f"a,b,delay=10ms,rate={rate}", "b,a,delay=0"], {
+                "b": "listen(); serve()",
+                "a": f"time.sleep(1); s = connect()\n{write}\nshow('sent')"})
+            span = int(seconds * SECOND)
+            self.assertEqual(out["b"][-1], ["end", 10**7, zlib.crc32(bytes(10**7)),
+                                            NOW + THERE + span + THERE])
+            # back pressure: a part is on its way and in buffers when the last one is written
+            sent = out["a"][-1][1] - NOW
+            self.assertTrue(span // 10 < sent < span, sent)
+
+    def test_the_bytes_are_right(self):
+        for link in ["delay=3ms", "delay=1ms,jitter=20ms,rate=1G", "rate=100M,queue=0"]:
+            out = self.on_links([f"a,b,{link}"], {"b": "listen(); serve()", "a": """
+    time.sleep(1)
+    import random, zlib
+    s, draw = connect(), random.Random(5)
+    data = draw.randbytes(3 * 10**6); view = memoryview(data)
+    while view:
+        n = draw.randrange(1, 100000); s.sendall(view[:n]); view = view[n:]
+        if draw.random() < 0.2: time.sleep(0.002)
+    print("sum", zlib.crc32(data))
+    """})
+            self.assertEqual(out["b"][-1][1:3], [3 * 10**6, out["a"][-1][1]])
+
+    def test_a_rate_that_several_streams_share(self):
+        # each gets its part: all of 4 MB end in the last tenth of 3.2 s
+        out = self.on_links(["a,b,rate=10M,queue=20k"], {
+            "b": """
+    listen()
+    import threading
+    all = [threading.Thread(target=serve, args=("%d " % i,)) for i in range(4)]
+    for one in all: one.start()
+    for one in all: one.join()
+    """, "a": """
+    time.sleep(1)
+    all = [connect() for _ in range(4)]
+    for _ in range(4):
+        if not os.fork(): all[_].sendall(bytes(10**6)); os._exit(0)
+    for s in all: s.close()
+    for s in all: os.wait()
+    """})
+        ends = sorted(line[-1] - NOW for line in out["b"] if line[1] == "end")
+        self.assertEqual(ends[-1], 32 * SECOND // 10)
+        self.assertEqual(len(ends), 4)
+        self.assertGreater(ends[0], 28 * SECOND // 10)
+
+    def test_a_window(self):
+        # without a rate, 4 MiB are on their way at once
+        out = self.on_links(["a,b,delay=1"], {
+            "b": "listen(); serve()",
+            "a": f"time.sleep(1); s = connect(); s.sendall(bytes(3 * {WINDOW})); s.close()"})
+        self.assertEqual(out["b"][-1][-1], NOW + 2 * SECOND + 3 * SECOND)
+
+    def test_a_receiver_that_does_not_read(self):
+        out = self.on_links(["a,b,delay=1ms"], {
+            "b": "l = socket.create_server(AT_B); s = l.accept()[0]; time.sleep(100)\n"
+                 "total = 0\nwhile n := len(s.recv(1 << 20)): total += n\nshow(total)",
+            "a": "time.sleep(1); s = connect(); s.sendall(bytes(3 * 10**7)); show('sent'); s.close()"})
+        self.assertEqual(out["b"][0][0], 3 * 10**7)
+        self.assertGreater(out["a"][-1][-1], 100 * SECOND)
+
+    def test_a_partition_holds_the_bytes(self):
+        plan = self.file("plan", "at 2 partition a b\nat 7 heal a b\n")
+        out = self.on_links(LINKS, {
+            "b": "listen(); serve()",
+            "a": "time.sleep(1); s = connect(); time.sleep(0.955); s.send(b'1'); time.sleep(1)\n"
+                 "s.send(b'2'); s.close(); time.sleep(9)"}, "--plan", plan)
+        first = NOW + THERE + BACK + 955 * MILLI + 1 + THERE
+        self.assertGreater(first, 2 * SECOND)
+        self.assertEqual([line[-1] for line in out["b"][1:]], [first, 7 * SECOND + THERE])
+        self.assertEqual(out["b"][2][1], 2)
+
+    def test_a_close_keeps_its_order(self):
+        # also after bytes that wait for the rate: 100,000 bytes at 1 Mbit/s
+        out = self.on_links(["a,b,delay=10ms,rate=1M", "b,a,delay=30ms"], {
+            "b": "listen(); serve(); serve(); serve()",
+            "a": """
+    time.sleep(1)
+    connect().close()
+    s = connect(); s.send(bytes(100000)); s.close(); show()
+    if not os.fork(): s = connect(); s.send(b"1"); os.kill(os.getpid(), signal.SIGKILL)
+    """})
+        step = THERE + BACK
+        second, third = NOW + step, NOW + 2 * step + 800 * MILLI
+        self.assertEqual([line[-1] for line in out["b"]], [
+            # nothing is between the packets of the first connection
+            second + THERE, second + THERE,
+            # 1,448 bytes come first; the third connection waits until all have gone
+            second + step + THERE, second + step + 1448 * 8000 + THERE, third + THERE,
+            third + step + THERE, third + step + 8000 + THERE, third + step + 8000 + THERE])
+
+    def test_one_end_goes_on(self):
+        out = self.on_links(LINKS, {
+            "b": "l = socket.create_server(AT_B); s = l.accept()[0]; s.shutdown(socket.SHUT_WR)\n"
+                 "while data := s.recv(9): show(data.decode())\nshow('end')",
+            "a": "time.sleep(1); s = connect(); show(s.recv(9)); time.sleep(1); s.send(b'on'); "
+                           "time.sleep(1); s.close()"})
+        connected = NOW + THERE + BACK
+        self.assertEqual(out["a"][-1], ["b''", connected + THERE + BACK])
+        connected += THERE + BACK
+        self.assertEqual(out["b"], [["on", connected + SECOND + 1 + THERE],
+                                    ["end", connected + 2 * SECOND + 2 + THERE]])
+
+    def test_resets(self):
+        wait = """
+try: s.recv(9)
+except OSError as error: show(errno.errorcode[error.errno])
+"""
+        abort = "s.setsockopt(socket.SOL_SOCKET, socket.SO_LINGER, struct.pack('ii', 1, 0)); s.close()"
+        accept = "l = socket.create_server(AT_B); s = l.accept()[0]"
+        connected = NOW + THERE + BACK
+        out = self.on_links(LINKS, {"b": accept + wait, "a": f"time.sleep(1); s = connect(); {abort}"})
+        self.assertEqual(out["b"], [["ECONNRESET", connected + THERE]])
+        out = self.on_links(LINKS, {"b": accept + f"; time.sleep(1); {abort}",
+                                    "a": "time.sleep(1); s = connect()" + wait +
+                                    "show(s.getsockopt(socket.SOL_SOCKET, socket.SO_ERROR))"})
+        reset = connected + THERE + SECOND + BACK
+        self.assertEqual([[*line[:-1], line[-1] // 1000] for line in out["a"][1:]],
+                         [["ECONNRESET", reset // 1000], [0, reset // 1000]])
+        # bytes for a server that has closed all come back as a reset
+        out = self.on_links(LINKS, {"b": accept + "; s.close()", "a": """
+    time.sleep(1)
+    s = connect(); show(s.recv(9)); s.send(b"1"); time.sleep(1)
+    try: s.send(b"2")
+    except OSError as error: show(errno.errorcode[error.errno])
+    """})
+        self.assertEqual(out["a"][1:], [["b''", connected + THERE + BACK],
+                                        ["EPIPE", connected + THERE + BACK + SECOND + 1]])
+
+    def test_a_reset_is_an_error_of_poll(self):
+        out = self.on_links(LINKS, {
+            "b": "l = socket.create_server(AT_B); s = l.accept()[0]; time.sleep(1)\n"
+                 "s.setsockopt(socket.SOL_SOCKET, socket.SO_LINGER, struct.pack('ii', 1, 0)); s.close()",
+            "a": """
+    time.sleep(1)
+    s = connect(); poll = select.poll(); poll.register(s, select.POLLIN)
+    show(bool(poll.poll()[0][1] & select.POLLERR))
+    show(errno.errorcode[s.getsockopt(socket.SOL_SOCKET, socket.SO_ERROR)])
+    """})
+        self.assertEqual([line[0] for line in out["a"][1:]], ["True", "ECONNRESET"])
+
+    def test_sendfile_and_splice(self):
+        data = self.folder / "data"
+        data.write_bytes(bytes(range(256)) * 4000)
+        out = self.on_links(["a,b,delay=10ms,rate=100M", "b,a,delay=10ms"], {
+            "b": "listen(); serve(); serve()",
+            "a": f"""
+    time.sleep(1)
+    import subprocess, zlib
+    file = open("{data}", "rb"); size = 1024000
+    print("sum", zlib.crc32(file.read()))
+    s = connect(); left = size
+    while left: left -= os.sendfile(s.fileno(), file.fileno(), size - left, left)
+    s.close(); s = connect(); left = size; ends = os.pipe(); file.seek(0)
+    while left:
+        n = os.splice(file.fileno(), ends[1], 65536)
+        while n: m = os.splice(ends[0], s.fileno(), n); n -= m; left -= m
+    s.close()
+    """})
+        ends = [line for line in out["b"] if line[0] == "end"]
+        self.assertEqual([line[1:3] for line in ends], [[1024000, out["a"][0][1]]] * 2)
+        # 81.92 ms for the bytes, after 20 ms for the connection
+        self.assertEqual(ends[0][-1], NOW + 20 * MILLI + 81920000 + 10 * MILLI)
+
+    def test_a_process_that_is_killed(self):
+        out = self.on_links(LINKS, {
+            "b": "listen(); serve()",
+            "a": "time.sleep(1); s = connect(); s.send(b'123'); time.sleep(5)\n"
+                 "os.kill(os.getpid(), signal.SIGKILL)",
+            "c": "time.sleep(10); show('goes on')"})
+        connected = NOW + THERE + BACK
+        self.assertEqual([line[-1] for line in out["b"][1:]],
+                         [connected + THERE, connected + 5 * SECOND + 1 + THERE])
+        self.assertEqual(out["c"], [["goes", "on", 10 * SECOND + 1]])
+
+    def test_kills_at_any_time(self):
+        # 100 clients are killed while they connect and send; what a server gets is a prefix
+        out = self.on_links(["a,b,delay=1ms,rate=20M"], {
+            "b": """
+    import threading
+    l = socket.create_server(AT_B); wrong = []
+    def serve(s):
+        text = b""
+        try:
+            while data := s.recv(1 << 16): text += data
+        except ConnectionResetError: pass
+        if text == b"end": print("wrong", wrong); os._exit(0)
+        if text != (bytes(range(256)) * (len(text) // 256 + 1))[:len(text)]: wrong.append(text)
+    while True: threading.Thread(target=serve, args=l.accept()[:1]).start()
+    """,
+            "a": """
+    import random
+    draw = random.Random(1)
+    for i in range(100):
+        child = os.fork()
+        if not child:
+            s = socket.create_connection(AT_B)
+            while True: s.sendall(bytes(range(256)) * 20)
+        time.sleep(draw.choice([0, 0.0005, 0.001, 0.002, 0.003, 0.004]))
+        for _ in range(draw.randrange(10000)): pass
+        os.kill(child, signal.SIGKILL); os.waitpid(child, 0)
+    time.sleep(1); socket.create_connection(AT_B).sendall(b"end"); time.sleep(1)
+    """})
+        self.assertEqual(out["b"], [["wrong", "[]"]])
+
+    def test_a_program_without_the_library_serves(self):
+        # a server needs nothing: it may be one that hasn't loaded the library
+        out = self.on_links(LINKS, {
+            "b": f"os.execve(sys.executable, ['p', '-c', 'import socket; "
+                 f"s = socket.create_server((\"{ADDRESSES['b']}\", {PORT})).accept()[0]; "
+                 "s.send(s.recv(9))'], {})",
+            "a": "time.sleep(1); s = connect(); s.send(b'back'); show(s.recv(9).decode())"}, "--lax")
+        self.assertEqual(out["a"], [["connected", "True", NOW + THERE + BACK],
+                                    ["back", NOW + 2 * (THERE + BACK)]])
+
+    def test_a_record(self):
+        self.on_links(LINKS, {"b": "listen(); serve()",
+                              "a": "time.sleep(1); s = connect(); s.sendall(bytes(10**6))"}, "--check")
+
+    def test_the_same_run_twice(self):
+        # two clients at once, with jitter and a rate
+        programs = {"b": "listen(); serve(); serve()",
+                    "a": "time.sleep(1); s = connect(); s.sendall(bytes(10**6)); s.close()",
+                    "c": "time.sleep(1); s = connect(); s.sendall(bytes(10**6)); s.close()"}
+        links = ["a,b,delay=1ms,jitter=5ms,rate=50M", "c,b,delay=1ms,jitter=5ms,rate=50M"]
+        first = self.on_links(links, programs)
+        self.assertEqual(self.on_links(links, programs), first)
+
+    def test_many_connections(self):
+        out = self.on_links(["a,b,delay=1"], {
+            "b": """
+    l = socket.create_server(AT_B, backlog=4096); all = [l.accept()[0] for _ in range(300)]
+    print(sum(int(s.recv(9)) for s in all), now() // 10**6)
+    """, "a": """
+    time.sleep(1); all = []
+    for i in range(300):
+        s = socket.socket(); s.setblocking(False); s.connect_ex(AT_B); all.append(s)
+    for i, s in enumerate(all): select.select([], [s], []); s.send(b"%d" % i)
+    """})
+        self.assertEqual(out["b"], [[sum(range(300)), 4000]])
+
+
+if __name__ == "__main__":
+    unittest.main()
