@@ -113,6 +113,10 @@ void execs_wait_no_more(void);
 /* Lets the sleeps be checked, since the counter has moved. */
 void sleepers_wake(void);
 
+/* Names a program that has just been executed, and is traced, if it doesn't load the library and its
+ * node has links. */
+void unlinked_check(pid_t process);
+
 /* Lets a thread execute a program, and follows it until it has. */
 void exec_follow(int listener, const struct seccomp_notif *ask);
 

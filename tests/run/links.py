@@ -1,6 +1,7 @@
 """What the tests of links between nodes share: Python programs on two or three nodes."""
 import os
 import random
+import re
 import textwrap
 
 from runs import STILL, TKRUN, RunTest
@@ -49,10 +50,11 @@ class LinkTest(RunTest):
         return [[int(word) if word.lstrip("-").isdigit() else word for word in line.split()]
                 for line in (self.folder / name).read_text().splitlines()]
 
-    def on_links(self, links, programs, *options, before="", status=0):
-        """Runs the programs with these links. Returns what each of them has printed."""
+    def on_links(self, links, programs, *options, before="", says=""):
+        """Runs the programs with these links. Returns what each of them has printed. tkrun prints
+        what `says` is."""
         words = [word for link in links for word in ("--link", link)]
-        out = self.run_on(*OPTIONS, *words, *options, *self.script(programs, before),
-                          status=status)
-        self.assertEqual(out, "")
+        run = self.start("--quiet", *OPTIONS, *words, *options, *self.script(programs, before))
+        said = re.sub("process [0-9]+", "process N", run.stderr)
+        self.assertEqual((run.returncode, run.stdout, said), (0, "", says))
         return {name: self.read(name) for name in programs}

@@ -1,9 +1,10 @@
 """Datagrams between nodes with --link. All times are computed here: a program starts at 0, and a
 sleep of a second ends 1 ns after it."""
+import re
 import unittest
 
 from links import ADDRESSES, MILLI, OPTIONS, PORT, SECOND, LinkTest
-from runs import CAN_FILTER, IS_ROOT, TKRUN, call, needs_root, program
+from runs import CAN_FILTER, CAN_TRACE, IS_ROOT, TKRUN, call, needs_root, program
 
 SENDS = program("net_sends")
 # the texts of net_sends in the order of its calls
@@ -294,6 +295,20 @@ class Datagrams(LinkTest):
             "b": RECEIVE_SOME.format(4),
             "a": "s = udp(); os.setuid(65531); s.sendto(b'1', AT_B); udp().sendto(b'2', AT_B)"})
         self.assertEqual(out["b"], [[1, SECOND], [2, SECOND]])
+
+    @unittest.skipUnless(CAN_FILTER and CAN_TRACE, "the kernel lets tkrun trace no program")
+    def test_programs_without_the_library_are_named(self):
+        static = program("static_nodes_clocks")
+        text = (f"T={TKRUN}; for i in 1 2; do $T node a -- {static}; $T node b -- env -i sleep 0; "
+                f"$T node c -- {static}; done; {static}; $T node a -- sh -c 'exec $0 ctl a step 1' $T; "
+                "$T node a -- env sleep 0")
+        run = self.start("--quiet", *OPTIONS, "--link", "a,b", "--", "sh", "-c", text)
+        lines = [re.sub("process [0-9]+", "process N", line) for line in run.stderr.splitlines()]
+        self.assertEqual(lines, [
+            "tkrun: 'static_nodes_cl' (process N) sends to other nodes as if there were no link: it "
+            "is static",
+            "tkrun: 'sleep' (process N) sends to other nodes as if there were no link: it hasn't "
+            "loaded the library"])
 
     def test_a_record_of_nodes_with_links(self):
         self.on_links(["a,b,delay=10ms,jitter=3ms"], {
