@@ -107,7 +107,8 @@ class Connections(LinkTest):
     def test_sockets_of_ipv6_with_addresses_of_ipv4(self):
         out = self.on_links(LINKS, {
             "b": """
-    l = socket.socket(socket.AF_INET6); l.bind(("::", PORT)); l.listen(5)
+    l = socket.socket(socket.AF_INET6)
+    l.setsockopt(socket.SOL_SOCKET, socket.SO_REUSEADDR, 1); l.bind(("::", PORT)); l.listen(5)
     s, peer = l.accept(); show(peer[0]); show(s.recv(9).decode())
     """,
             "a": """
@@ -129,10 +130,10 @@ class Connections(LinkTest):
         out = self.on_links(LINKS, {
             "b": "l = socket.create_server(AT_B)\n"
                  "for _ in range(3): show(l.accept()[1][1])",
-            "a": "time.sleep(1); connect(name=(A, 7001)); connect(name=('', 7002)); connect()\n"
+            "a": "time.sleep(1); connect(name=(A, PORT + 2)); connect(name=('', PORT + 3)); connect()\n"
                  "show(socket.socket().getsockopt(1, 2))"})
-        self.assertEqual([line[0] for line in out["b"][:2]], [7001, 7002])
-        self.assertGreater(out["b"][2][0], 7002)
+        self.assertEqual([line[0] for line in out["b"][:2]], [PORT + 2, PORT + 3])
+        self.assertNotIn(out["b"][2][0], [PORT + 2, PORT + 3])
         self.assertEqual([line[0] for line in out["a"]], ["connected"] * 3 + [0])
 
     def test_a_port_that_nobody_has(self):
@@ -147,6 +148,15 @@ class Connections(LinkTest):
             self.assertEqual(out["a"][-3:], [["ECONNREFUSED", NOW + THERE + BACK],
                                              [0, NOW + THERE + BACK],
                                              ["ECONNREFUSED", NOW + SECOND + 1 + 2 * (THERE + BACK)]])
+
+    def test_a_port_that_others_have(self):
+        # another node, and the host, listen at the same port
+        out = self.on_links(["a,b,delay=1ms", "a,c,delay=1ms"], {
+            "c": "l = socket.create_server((C, PORT)); time.sleep(9)",
+            "b": "l = socket.create_server(('127.0.0.1', PORT)); "
+                 "m = socket.create_server(('::1', PORT), family=socket.AF_INET6); time.sleep(9)",
+            "a": "time.sleep(1); connect(); connect((C, PORT))"})
+        self.assertEqual([line[0] for line in out["a"]], ["ECONNREFUSED", "connected"])
 
     def test_a_partition(self):
         for connect in ("connect", "connect_later"):
@@ -459,6 +469,34 @@ except OSError as error: show(errno.errorcode[error.errno])
         links = ["a,b,delay=1ms,jitter=5ms,rate=50M", "c,b,delay=1ms,jitter=5ms,rate=50M"]
         first = self.on_links(links, programs)
         self.assertEqual(self.on_links(links, programs), first)
+
+    def test_no_file_stays_open(self):
+        # of tkrun, which is the parent of the shell: after connections and datagrams of each ending
+        plan = self.file("plan", "at 20 partition a b\nat 200 heal a b\n")
+        out = self.on_links(["a,b,delay=1ms,loss=0.2", "b,c"], {
+            "b": """
+    listen(); s = udp(*AT_B)
+    abort = struct.pack("ii", 1, 0)
+    for i in range(9):
+        c = listener.accept()[0]
+        if i % 3: c.recv(9)
+        if i % 3 == 2: c.setsockopt(socket.SOL_SOCKET, socket.SO_LINGER, abort)
+        c.close()
+    time.sleep(9999)
+    """, "a": """
+    def files():
+        with open(f"/proc/{os.getppid()}/stat") as stat: parent = stat.read().split()[3]
+        return len(os.listdir(f"/proc/{parent}/fd"))
+    time.sleep(1); before = files()
+    for i in range(9): s = connect(); s.send(b"1"); s.close()
+    for i in range(20): udp().sendto(b"1", AT_B)
+    for i in range(3): connect((B, PORT + 1)); connect_later((B, PORT + 1))
+    time.sleep(30 - now() / 1e9)
+    connect(); udp().sendto(b"1", AT_B)
+    time.sleep(300); print("files", files() - before)
+    """}, "--plan", plan)
+        self.assertEqual(out["a"][-1], ["files", 0])
+        self.assertEqual([line[0] for line in out["a"]].count("ECONNREFUSED"), 6)
 
     def test_many_connections(self):
         out = self.on_links(["a,b,delay=1"], {
