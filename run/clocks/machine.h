@@ -149,6 +149,16 @@ struct log {
 	char path[4096];       /* of --log, or none */
 };
 
+/* The latest moves of a counter of sleeps, with --stamps: the host's REALTIME after each, and the
+ * clocks' MONOTONIC since then, in ns. One is written before `count` counts it. */
+enum { MOVES_MOST = 4096 };
+struct moves {
+	_Atomic uint64_t count;
+	struct move {
+		_Atomic uint64_t host, nanos;
+	} of[MOVES_MOST];
+};
+
 struct control {
 	_Alignas(64) pthread_mutex_t lock;
 	struct tkc_ntp clocks[2];
@@ -162,6 +172,7 @@ struct control {
 	int32_t tkrun;	    /* its number there */
 	_Alignas(64) struct rows rows;
 	_Alignas(64) struct log log;
+	struct moves moves;
 	struct waiter waiters[WAITERS_MOST];
 };
 
@@ -296,6 +307,12 @@ uint64_t machine_left(struct machine *machine, uint32_t clock, int64_t sec,
 /* Sleeps until a clock reaches a time. Returns 0 or EINTR. */
 int machine_sleep(struct machine *machine, uint32_t clock, int64_t sec,
 		  uint32_t nsec);
+
+/* Notes that a counter of sleeps has moved, with --stamps. The other stores how long ago it was by
+ * MONOTONIC, in ns, that the host's REALTIME was `host`, or at least how long ago the first move was
+ * that is still known. It returns false if none is. */
+void moves_note(struct machine *machine);
+bool moves_find(struct machine *machine, uint64_t host, uint64_t *age);
 
 /* Notes how often this thread has polled the clocks, or has waited for nothing. With
  * COUNTER_SLEEPS, a thousand polls of a counter that doesn't move take 1 us: a thread that

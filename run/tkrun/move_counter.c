@@ -198,6 +198,7 @@ static void move_node(struct node *node, uint64_t common)
 	if (!machine_is_asleep(machine))
 		machine_apply(machine, &update, 1);
 	machine_unlock(machine, &saved);
+	moves_note(machine);
 }
 
 /* Returns whether all threads of all nodes wait. A thread may look at rest, then act on its time

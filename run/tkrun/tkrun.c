@@ -189,8 +189,10 @@ static void open_all(struct run *run)
 		strcpy(run->nodes[i].machine.control->log.path, options->log);
 	if (options->record || options->is_checked)
 		start_records(run);
-	for (size_t i = 0; i < run->count; i++)
+	for (size_t i = 0; i < run->count; i++) {
 		run_first_orders(&run->nodes[i]);
+		moves_note(&run->nodes[i].machine);
+	}
 	if (run->count > 1)
 		control_open(run);
 	net_open(run);

@@ -33,6 +33,7 @@ def udp(*name):
 
 class LinkTest(RunTest):
     prelude = PRELUDE
+    options = OPTIONS
 
     def script(self, programs, before=""):
         """A shell script that runs a Python program on each node, and waits for all. Those that
@@ -54,7 +55,7 @@ class LinkTest(RunTest):
         """Runs the programs with these links. Returns what each of them has printed. tkrun prints
         what `says` is."""
         words = [word for link in links for word in ("--link", link)]
-        run = self.start("--quiet", *OPTIONS, *words, *options, *self.script(programs, before))
+        run = self.start("--quiet", *self.options, *words, *options, *self.script(programs, before))
         said = re.sub("process [0-9]+", "process N", run.stderr)
         self.assertEqual((run.returncode, run.stdout, said), (0, "", says))
         return {name: self.read(name) for name in programs}
