@@ -72,16 +72,15 @@ static ssize_t hand_over(int file, const struct msghdr *content, uint32_t addres
 	return error ? -error : (ssize_t)length;
 }
 
-/* Sends a message, if it is one to another node. Returns false if it isn't. */
+/* Sends a message, if it is one to another node. Returns false if it isn't. It leaves errno, unless
+ * that fails. */
 static bool send_over(int file, const struct msghdr *message, int flags, ssize_t *result)
 {
-	int error = errno;
 	uint32_t address = flags & MSG_OOB ? 0 : receiver_of(file, message);
 
 	if (!address)
 		return false;
 	*result = hand_over(file, message, address);
-	errno = error;
 	if (*result < 0)
 		*result = net_refuse((int)-*result);
 	return true;

@@ -14,8 +14,8 @@ enum message_kind {
 	MESSAGE_CONNECT	  /* to be connected; a second file gets the errno of connect(2) */
 };
 
-/* tkrun ends an attempt to connect a socket that doesn't block by its TCP_USER_TIMEOUT, which has no
- * effect then: this number with the errno in its low bits. */
+/* If tkrun ends an attempt to connect a socket that doesn't block, it stores the errno as its
+ * TCP_USER_TIMEOUT, which has no effect then: in the low bits of this number. */
 enum { FAILURE = 0x746b0000, FAILURE_ERRORS = 0xffff };
 
 /* The most bytes of control data, and of a datagram of UDP. */

@@ -1,7 +1,7 @@
 /* SPDX-License-Identifier: MIT OR Apache-2.0 */
 /*
- * relays.h - the addresses at which tkrun stands for the servers of other nodes. A connection of TCP
- * between two nodes is two of them: from the client to tkrun, and from tkrun to the server. The
+ * relays.h - the addresses at which tkrun stands for the servers of other nodes. A connection of
+ * TCP between two nodes is two of them: from the client to tkrun, and from tkrun to the server. The
  * address of tkrun's end contains the node and the port of the server, from which the library
  * computes what getpeername returns.
  */

@@ -1,8 +1,8 @@
 /* SPDX-License-Identifier: MIT OR Apache-2.0 */
 /*
  * net.h - the network between nodes, with --link. Programs hand datagrams and connections to tkrun
- * (net/message.h), which lets them arrive when the common counter has reached their times. All of it
- * happens while all threads wait: so all that was sent before was sent at the present time.
+ * (net/message.h), which lets them arrive when the common counter has reached their times. All of
+ * it happens while all threads wait: so all that was sent before was sent at the present time.
  */
 #ifndef TKRUN_NET_H
 #define TKRUN_NET_H
@@ -63,6 +63,12 @@ bool flights_arrive(uint64_t now);
 void take_datagram(const struct message *message, const char *bytes, size_t length, int file,
 		   uint64_t now);
 void take_connection(const struct message *message, int file, int answer, uint64_t now);
+
+/* Return the name of a socket, and call bind or connect with a name. The socket may be one of IPv6,
+ * with an address of IPv4. */
+struct sockaddr_in net_name(int file);
+int net_call_with(int (*call)(int, const struct sockaddr *, socklen_t), int file,
+		  const struct sockaddr_in *name);
 
 /* A connection to a server that is to be made. */
 struct opening;

@@ -67,40 +67,6 @@ static void let_go(struct connection *connection)
 	free(connection);
 }
 
-/* Returns the name of a socket, which may be one of IPv6 with an address of IPv4. */
-static struct sockaddr_in name_of(int file)
-{
-	union {
-		struct sockaddr any;
-		struct sockaddr_in four;
-		struct sockaddr_in6 six;
-	} name = { 0 };
-	socklen_t length = sizeof(name);
-
-	getsockname(file, &name.any, &length);
-	if (name.any.sa_family == AF_INET6) {
-		name.four.sin_family = AF_INET;
-		name.four.sin_addr.s_addr = name.six.sin6_addr.s6_addr32[3];
-	}
-	return name.four;
-}
-
-/* Calls bind or connect with a name, for a socket that may be one of IPv6. */
-static int call_with(int (*call)(int, const struct sockaddr *, socklen_t), int file,
-		     const struct sockaddr_in *name)
-{
-	struct sockaddr_in6 six = { .sin6_family = AF_INET6, .sin6_port = name->sin_port };
-	int family = AF_INET;
-	socklen_t length = sizeof(family);
-
-	getsockopt(file, SOL_SOCKET, SO_DOMAIN, &family, &length);
-	if (family == AF_INET)
-		return call(file, (const struct sockaddr *)name, sizeof(*name));
-	six.sin6_addr.s6_addr32[2] = htonl(0xffff);
-	six.sin6_addr.s6_addr32[3] = name->sin_addr.s_addr;
-	return call(file, (const struct sockaddr *)&six, sizeof(six));
-}
-
 /* Opens the guard, whose address stands for the server's. */
 static bool open_guard(struct connection *connection)
 {
@@ -115,24 +81,24 @@ static bool open_guard(struct connection *connection)
 	connection->guard = net_make_socket();
 	if (setsockopt(connection->guard, SOL_SOCKET, SO_ATTACH_FILTER, &program,
 		       sizeof(program)) ||
-	    call_with(bind, connection->guard, &name) || listen(connection->guard, 1))
+	    net_call_with(bind, connection->guard, &name) || listen(connection->guard, 1))
 		return false;
-	connection->guard_name = name_of(connection->guard);
+	connection->guard_name = net_name(connection->guard);
 	return true;
 }
 
 /* Lets the client's socket begin to connect to the guard, without a wait. Returns an errno. */
 static int begin_client(struct connection *connection, int flags)
 {
-	struct sockaddr_in name = name_of(connection->client);
+	struct sockaddr_in name = net_name(connection->client);
 	int error;
 
 	if (!name.sin_port) {
 		name.sin_addr.s_addr = node_machine(connection->there->options.from)->shared->peers.own;
-		call_with(bind, connection->client, &name);
+		net_call_with(bind, connection->client, &name);
 	}
 	fcntl(connection->client, F_SETFL, flags | O_NONBLOCK);
-	error = call_with(connect, connection->client, &connection->guard_name) ? errno : 0;
+	error = net_call_with(connect, connection->client, &connection->guard_name) ? errno : 0;
 	fcntl(connection->client, F_SETFL, flags);
 	return error;
 }
@@ -140,11 +106,11 @@ static int begin_client(struct connection *connection, int flags)
 /* Connects tkrun's end to the client's socket. Returns its file, or -1. */
 static int connect_client(const struct connection *connection)
 {
-	struct sockaddr_in name = name_of(connection->client);
+	struct sockaddr_in name = net_name(connection->client);
 	int file = net_make_socket();
 
-	if (!call_with(bind, file, &connection->guard_name) &&
-	    (!call_with(connect, file, &name) || errno == EINPROGRESS) &&
+	if (!net_call_with(bind, file, &connection->guard_name) &&
+	    (!net_call_with(connect, file, &name) || errno == EINPROGRESS) &&
 	    !net_state_of(file, WAIT_MILLIS))
 		return file;
 	close(file);
@@ -173,11 +139,11 @@ static void fail_client(struct connection *connection, int error)
 	send_answer(&connection->answer, error);
 }
 
-/* The server sees the client's port, which the client's socket must share meanwhile, and the address
- * of its node. */
+/* The server sees the client's port, which the client's socket must share meanwhile, and the
+ * address of its node. */
 static struct opening *begin_opening(const struct connection *connection)
 {
-	struct sockaddr_in name = name_of(connection->client);
+	struct sockaddr_in name = net_name(connection->client);
 	struct opening *opening;
 	int one = 1, before = 0;
 	socklen_t length = sizeof(before);

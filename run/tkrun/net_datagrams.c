@@ -60,7 +60,7 @@ static void let_sender_go(struct sender *sender)
 	free(sender);
 }
 
-/* Returns whether a socket has no address of its own, so that the kernel would choose the host's. */
+/* Returns whether a socket is bound to no address, so that the kernel would choose the host's. */
 static bool has_no_address(int file)
 {
 	union {

@@ -169,6 +169,22 @@ static void set_flag(struct options *o, const char *name)
 	o->is_quiet |= !strcmp(name, "quiet");
 }
 
+/* Parses an option of nodes. Returns false if it is another one. */
+static bool parse_nodes_option(struct options *o, const char *name, const char *value)
+{
+	if (!strcmp(name, "plan"))
+		o->plan = value;
+	else if (!strcmp(name, "node"))
+		add_node(o, value);
+	else if (!strcmp(name, "link"))
+		add_link(o, value);
+	else if (!strcmp(name, "address"))
+		o->address = parse_address(value);
+	else
+		return false;
+	return true;
+}
+
 void parse_option(struct options *o, const char *name, const char *value)
 {
 	if (!strcmp(name, "counter"))
@@ -199,15 +215,7 @@ void parse_option(struct options *o, const char *name, const char *value)
 		o->reads_most = whole(name, value, 0, INT64_MAX);
 	else if (!strcmp(name, "log"))
 		o->log = value;
-	else if (!strcmp(name, "plan"))
-		o->plan = value;
-	else if (!strcmp(name, "node"))
-		add_node(o, value);
-	else if (!strcmp(name, "link"))
-		add_link(o, value);
-	else if (!strcmp(name, "address"))
-		o->address = parse_address(value);
-	else
+	else if (!parse_nodes_option(o, name, value))
 		set_flag(o, name);
 	o->has_ahead |= !strcmp(name, "ahead");
 	o->has_uptime |= !strcmp(name, "uptime");
@@ -266,8 +274,7 @@ void parse_options(int count, char **words, struct options *options)
 		{ "lax", 0, 0, 0 },	  { "node", 1, 0, 0 },
 		{ "plan", 1, 0, 0 },	  { "help", 0, 0, 'h' },
 		{ "version", 0, 0, 'v' }, { "reads", 1, 0, 0 },
-		{ "link", 1, 0, 0 },
-		{ 0, 0, 0, 0 },
+		{ "link", 1, 0, 0 },	  { 0, 0, 0, 0 },
 	};
 	int letter, index;
 

@@ -29,6 +29,43 @@ def udp(*name):
     if name: new.bind(name)
     return new
 """
+# serve prints when a connection, its first bytes and its end have come, and how many bytes with
+# which sum; connect_later doesn't block
+STREAMS = PRELUDE + """
+import zlib
+def listen():
+    global listener
+    listener = socket.create_server(AT_B)
+    listener.settimeout(200)
+def serve(name=""):
+    s, peer = listener.accept()
+    show(name + "accepted", peer == s.getpeername(), peer[0])
+    total = check = 0
+    while data := s.recv(1 << 20):
+        if not total: show(name + "first")
+        total += len(data); check = zlib.crc32(data, check)
+    show(name + "end", total, check)
+    return s
+def connect(to=AT_B, name=None):
+    s = socket.socket()
+    if name: s.bind(name)
+    try: s.connect(to); show("connected", s.getpeername() == to)
+    except OSError as error: show(errno.errorcode[error.errno])
+    return s
+def reset(s):
+    s.setsockopt(socket.SOL_SOCKET, socket.SO_LINGER, struct.pack("ii", 1, 0)); s.close()
+def connect_later(to=AT_B):
+    s = socket.socket(); s.setblocking(False)
+    show(errno.errorcode[s.connect_ex(to)])
+    poll = select.poll(); poll.register(s, select.POLLOUT)
+    poll.poll()
+    error = s.getsockopt(socket.SOL_SOCKET, socket.SO_ERROR)
+    show(errno.errorcode[error] if error else "connected")
+    return s
+"""
+THERE, BACK = 10 * MILLI, 30 * MILLI
+LINKS = ["a,b,delay=10ms", "b,a,delay=30ms"]
+NOW = SECOND + 1  # after the client's sleep
 
 
 class LinkTest(RunTest):

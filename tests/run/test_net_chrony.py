@@ -13,13 +13,13 @@ SPAN = 3600  # s of the clocks
 @unittest.skipUnless(CHRONYD, "chronyd isn't installed")
 class Chrony(LinkTest):
     def error_after(self, *links):
-        """How far the clock of b, which a corrects, is ahead of that of a in the end, in s. It begins
-        2 s ahead, on a counter that is 80 ppm too fast."""
+        """How far the clock of b, which a corrects, is ahead of that of a in the end, in s. It
+        begins 2 s ahead, on a counter that is 80 ppm too fast."""
         common = f"cmdport 0\nbindcmdaddress /\nclockprecision 1e-9\npidfile {self.folder}/"
         server = self.file("server", f"{common}server.pid\nlocal stratum 1\nallow 127.0.0.0/8\n"
                                      f"bindaddress {ADDRESSES['a']}\nport {PORT}\n")
-        client = self.file("client", f"{common}client.pid\nport 0\nmakestep 0.1 3\n"
-                                     f"server {ADDRESSES['a']} port {PORT} minpoll 4 maxpoll 4 iburst\n")
+        source = f"server {ADDRESSES['a']} port {PORT} minpoll 4 maxpoll 4 iburst"
+        client = self.file("client", f"{common}client.pid\nport 0\nmakestep 0.1 3\n{source}\n")
         daemon = f"{CHRONYD} -d -u root -F 0"
         text = f"""
             cd {self.folder}
@@ -38,10 +38,11 @@ class Chrony(LinkTest):
         return (second - first) / 1e9
 
     def test_an_asymmetry(self):
-        # the client believes that both directions take as long, so it is off by half of the difference
+        # the client believes that both directions take as long, so it is off by a half
         self.assertAlmostEqual(self.error_after("b,a,delay=10ms", "a,b,delay=30ms"), -0.01,
                                delta=1e-6)
-        self.assertAlmostEqual(self.error_after("b,a,delay=10ms", "a,b,delay=4ms"), 0.003, delta=1e-6)
+        self.assertAlmostEqual(self.error_after("b,a,delay=10ms", "a,b,delay=4ms"), 0.003,
+                               delta=1e-6)
 
     def test_a_symmetrical_delay(self):
         self.assertAlmostEqual(self.error_after("a,b,delay=20ms"), 0, delta=1e-6)

@@ -1,10 +1,9 @@
 """Datagrams between nodes with --link. All times are computed here: a program starts at 0, and a
 sleep of a second ends 1 ns after it."""
-import re
 import unittest
 
 from links import ADDRESSES, MILLI, OPTIONS, PORT, SECOND, LinkTest
-from runs import CAN_FILTER, CAN_TRACE, IS_ROOT, TKRUN, call, needs_root, program
+from runs import TKRUN, program
 
 SENDS = program("net_sends")
 # the texts of net_sends in the order of its calls
@@ -98,13 +97,15 @@ class Datagrams(LinkTest):
             "b": RECEIVE_SOME.format(3),
             "a": """
                 time.sleep(1)
-                own = udp(A, PORT + 1); udp().sendto(b"own", (A, PORT + 1)); show(own.recv(9).decode())
+                own = udp(A, PORT + 1); udp().sendto(b"own", (A, PORT + 1))
+                show(own.recv(9).decode())
                 own = udp("127.0.0.1", 0); udp().sendto(b"host", own.getsockname())
                 show(own.recv(9).decode())
                 """,
             "c": "time.sleep(1); udp().sendto(b'c', AT_B)"},
-            before="python3 -c \"import socket, time; time.sleep(0.5); socket.socket(socket.AF_INET, "
-                   "socket.SOCK_DGRAM).sendto(b'p', ('{}', {}))\" &".format(ADDRESSES["b"], PORT))
+            before=f"python3 -c \"import socket, time; time.sleep(0.5); s = socket.socket("
+                   "socket.AF_INET, socket.SOCK_DGRAM); s.sendto(b'p', "
+                   f"('{ADDRESSES['b']}', {PORT}))\" &")
         self.assertEqual(out["b"], [["p", SECOND // 2 + 1], ["c", SECOND + 1]])
         self.assertEqual(out["a"], [["own", SECOND + 1], ["host", SECOND + 1]])
 
@@ -221,217 +222,6 @@ class Datagrams(LinkTest):
             """, "b": "time.sleep(5); s = udp(B, PORT + 1); show(s.recv(9).decode())"})
         self.assertEqual(out["a"], [["ECONNREFUSED", SECOND], ["ECONNREFUSED", 3 * SECOND + 1]])
         self.assertEqual(out["b"], [[6, 6 * SECOND + 2]])
-
-    def test_a_sender_that_is_killed(self):
-        out = self.on_links(["a,b,delay=5"], {
-            "a": "s = udp()\nfor i in range(3): s.sendto(b'%d' % i, AT_B)\n"
-                 "os.kill(os.getpid(), signal.SIGKILL)",
-            "b": RECEIVE_SOME.format(9),
-            "c": "time.sleep(7); show('goes on')"})
-        self.assertEqual(out["b"], [[i, 5 * SECOND] for i in range(3)])
-        self.assertEqual(out["c"], [["goes", "on", 7 * SECOND + 1]])
-
-    def test_kills_at_any_time(self):
-        # 200 senders are killed while they send; what they have sent comes in order
-        out = self.on_links(["a,b,delay=1ms"], {
-            "a": """
-                import random
-                draw = random.Random(1)
-                for i in range(200):
-                    ends = os.pipe()
-                    child = os.fork()
-                    if not child:
-                        s = udp()
-                        for n in range(10**6):
-                            s.sendto(b"%d %d" % (i, n), AT_B)
-                            if not n: os.write(ends[1], b"1")
-                    os.read(ends[0], 1)
-                    for _ in range(draw.randrange(10000)): pass
-                    os.kill(child, signal.SIGKILL); os.waitpid(child, 0)
-                    os.close(ends[0]); os.close(ends[1])
-                time.sleep(1); udp().sendto(b"end", AT_B)
-                """,
-            "b": """
-                s = udp(*AT_B); last = {}; right = True
-                while (text := s.recv(99)) != b"end":
-                    i, n = map(int, text.split())
-                    right &= n == last.get(i, -1) + 1; last[i] = n
-                print(right, len(last))
-                """})
-        self.assertEqual(out["b"], [["True", 200]])
-
-    def test_many_sockets_and_datagrams(self):
-        # all are on their way at once; each socket is one file of tkrun
-        out = self.on_links(["a,b,delay=1"], {
-            "a": """
-                import resource
-                resource.setrlimit(resource.RLIMIT_NOFILE, (900, 4096))
-                time.sleep(0.5)
-                for i in range(3):
-                    sockets = []; sockets = [udp() for _ in range(800)]
-                    for s in sockets: s.sendto(b"%d" % i, AT_B); s.sendto(b"%d" % i, AT_B)
-                """,
-            "b": """
-                s = udp(*AT_B); s.setsockopt(socket.SOL_SOCKET, 33, 1 << 26)  # SO_RCVBUFFORCE
-                time.sleep(1)
-                print(sorted(s.recv(9) for _ in range(4800)).count(b"2"), now() // 1000)
-                """ if IS_ROOT else "print(1600, 1500000)"})
-        self.assertEqual(out["b"], [[1600, 1500000]])
-
-    @unittest.skipUnless(CAN_FILTER, "the kernel lets no filter ask tkrun")
-    def test_programs_that_do_not_find_the_folder(self):
-        out = self.on_links(["a,b,delay=1"], {
-            "b": RECEIVE_SOME.format(4),
-            "a": f"""
-                time.sleep(1)
-                env = {{"LD_PRELOAD": os.environ["LD_PRELOAD"]}}
-                os.execve("{SENDS}", ["s", B, str(PORT)], env)"""})
-        self.assertEqual([line[-1] for line in out["b"]], [2 * SECOND + 1] * len(TEXTS))
-
-    @needs_root("starts a program as another user")
-    @unittest.skipUnless(CAN_FILTER, "the kernel lets no filter ask tkrun")
-    def test_a_program_of_another_user(self):
-        out = self.on_links(["a,b,delay=1"], {
-            "b": RECEIVE_SOME.format(4),
-            "a": "s = udp(); os.setuid(65531); s.sendto(b'1', AT_B); udp().sendto(b'2', AT_B)"})
-        self.assertEqual(out["b"], [[1, SECOND], [2, SECOND]])
-
-    @unittest.skipUnless(CAN_FILTER and CAN_TRACE, "the kernel lets tkrun trace no program")
-    def test_programs_without_the_library_are_named(self):
-        static = program("static_nodes_clocks")
-        text = (f"T={TKRUN}; for i in 1 2; do $T node a -- {static}; $T node b -- env -i sleep 0; "
-                f"$T node c -- {static}; done; {static}; $T node a -- sh -c 'exec $0 ctl a step 1' $T; "
-                "$T node a -- env sleep 0")
-        run = self.start("--quiet", *OPTIONS, "--link", "a,b", "--", "sh", "-c", text)
-        lines = [re.sub("process [0-9]+", "process N", line) for line in run.stderr.splitlines()]
-        self.assertEqual(lines, [
-            "tkrun: 'static_nodes_cl' (process N) sends to other nodes as if there were no link: it "
-            "is static",
-            "tkrun: 'sleep' (process N) sends to other nodes as if there were no link: it hasn't "
-            "loaded the library"])
-
-    def test_a_record_of_nodes_with_links(self):
-        self.on_links(["a,b,delay=10ms,jitter=3ms"], {
-            "a": SEND_SOME.format(20, 0.001) + "show()", "b": RECEIVE_SOME.format(1)}, "--check")
-
-    def test_nothing_changes_without_links(self):
-        text = "echo $LD_PRELOAD; ls $TKRUN | grep net"
-        self.assertNotIn("net", self.run_on(*OPTIONS, "--", "sh", "-c", text, status=1))
-        self.assertIn("libtkrun-net.so", self.run_on(*OPTIONS, "--link", "a,b", "--", "sh", "-c",
-                                                     text))
-
-
-class Options(LinkTest):
-    def fails(self, *words):
-        """Runs tkrun with a wrong option. Returns its sentence."""
-        made = self.folder / "made"
-        run = self.start(*words, "--", "touch", made)
-        self.assertEqual((run.returncode, run.stdout, made.exists()), (2, "", False))
-        self.assertRegex(run.stderr, r"\Atkrun: [^\n]*\n\Z")
-        return run.stderr[7:-1]
-
-    def test_wrong_links(self):
-        time = "isn't a time from 0 to 1000 s, such as 20ms"
-        short = "isn't a time from 0 to 1000 s, such as 5ms"
-        wrong = {
-            "a": "it isn't NODE,NODE[,OPTION=VALUE]..", "": "there is no node ''",
-            "a,d": "there is no node 'd'", "d,a": "there is no node 'd'",
-            "a,delay=1": "there is no node 'delay=1'", "a,b,": "'' is no option of a link",
-            "a,a": "a node has no link to itself", "b,b,delay=1": "a node has no link to itself",
-            "a,b,size=1": "'size' is no option of a link", "a,b,delay": f"delay '' {time}",
-            "a,b,delay=-1": f"delay '-1' {time}", "a,b,delay=1m": f"delay '1m' {time}",
-            "a,b,delay=1001": f"delay '1001' {time}", "a,b,delay=nan": f"delay 'nan' {time}",
-            "a,b,delay=0x1": f"delay '0x1' {time}", "a,b,delay=1e3": f"delay '1e3' {time}",
-            "a,b,delay=1.2.3": f"delay '1.2.3' {time}", "a,b,delay= 1": f"delay ' 1' {time}",
-            "a,b,jitter=-5ms": f"jitter '-5ms' {short}",
-            "a,b,jitter=1000001ms": f"jitter '1000001ms' {short}",
-            "a,b,loss=50%": "loss '50%' isn't a part from 0 to 1",
-            "a,b,loss=1.01": "loss '1.01' isn't a part from 0 to 1",
-            "a,b,rate=0": "rate '0' isn't bits per second from 1 to 1000G, such as 10M",
-            "a,b,rate=1001G": "rate '1001G' isn't bits per second from 1 to 1000G, such as 10M",
-            "a,b,queue=2G": "queue '2G' isn't bytes from 0 to 1G, such as 64k",
-            "a,b,queue=1ms": "queue '1ms' isn't bytes from 0 to 1G, such as 64k",
-            "a,b,seed=-1": "seed '-1' isn't a whole number below 2^53",
-        }
-        for words, sentence in wrong.items():
-            with self.subTest(link=words):
-                self.assertEqual(self.fails(*OPTIONS, "--link", words),
-                                 f"--link {words}: {sentence}")
-        self.assertEqual(self.fails(*OPTIONS, "--link", "a,b", "--link", "b,a", "--link",
-                                    "a,b,delay=1"),
-                         "--link a,b,delay=1: there is another one with these nodes")
-        self.assertEqual(self.fails("--node", "a,address=127.0.0.2", "--node",
-                                    "b,address=127.0.0.3", "--link", "a,b"),
-                         "--link needs --counter sleeps")
-        self.assertEqual(self.fails("--counter", "sleeps", "--node", "a,address=127.0.0.2", "--node",
-                                    "b", "--link", "a,b"),
-                         "--link a,b: the node 'b' has no address")
-
-    def test_limits_of_values(self):
-        for words in ["delay=1000", "delay=1000000000us", "delay=0.5ns", "jitter=0", "loss=1",
-                      "rate=1", "rate=1000G", "queue=1G,seed=9007199254740991", "queue=1.5k"]:
-            self.run_on(*OPTIONS, "--link", f"a,b,{words}", "--", "true")
-
-    def test_wrong_addresses(self):
-        for text in ["127.0.0.1", "127.0.0.0", "127.64.0.0", "127.255.0.1", "128.0.0.1", "10.0.0.1",
-                     "126.255.255.255", "127.0.0", "x", "", "::1"]:
-            with self.subTest(address=text):
-                self.assertEqual(self.fails("--node", f"a,address={text}"),
-                                 f"--node a: address '{text}' isn't one from 127.0.0.2 to "
-                                 "127.63.255.255")
-        self.assertEqual(self.fails("--node", "a,address=127.0.0.2", "--node",
-                                    "b,address=127.0.0.2"),
-                         "--node b: two nodes have this address")
-        self.run_on("--node", "a,address=127.63.255.255", "--node", "b,address=127.0.0.2", "--node",
-                    "c", "--node", "d", "--", "true")
-        for name in ["partition", "heal"]:
-            self.assertIn("isn't a name", self.fails("--node", name))
-
-    def test_wrong_partitions(self):
-        wrong = {
-            "partition a": "there is no node ''", "partition": "there is no node ''",
-            "heal a d": "there is no node 'd'", "heal d a": "there is no node 'd'",
-            "partition a a": "there is no link between 'a' and 'a'",
-            "partition a c": "there is no link between 'a' and 'c'",
-            "heal c b": "there is no link between 'c' and 'b'",
-            "partition a b 1": "there is no node 'b 1'",
-        }
-        for words, sentence in wrong.items():
-            with self.subTest(event=words):
-                plan = self.file("plan", f"at 1 partition a b\nat 2 {words}\n")
-                self.assertEqual(self.fails(*OPTIONS, "--link", "a,b", "--plan", plan),
-                                 f"--plan: line 2: {sentence}")
-                if words.count(" ") < 2:
-                    continue
-                run = self.start("--quiet", *OPTIONS, "--link", "a,b", "--", TKRUN, "ctl",
-                                 *words.split())
-                self.assertEqual(run.returncode, 2)
-        self.run_on(*OPTIONS, "--link", "a,b", "--", TKRUN, "ctl", "partition", "b", "a")
-        usage = call([TKRUN, "ctl", "heal"])
-        self.assertEqual((usage.returncode, usage.stderr), (
-            2, "tkrun: tkrun ctl NODE step|freq|suspend|leap [VALUE], or "
-               "tkrun ctl partition|heal NODE NODE\n"))
-
-    def test_messages_that_are_wrong(self):
-        # the socket of tkrun gets bytes that are no message of the library
-        text = """
-            import array
-            s = socket.socket(socket.AF_UNIX, socket.SOCK_DGRAM)
-            name = os.path.dirname(os.environ["TKRUN"]) + "/net"
-            own = udp().detach()
-            files = [(socket.SOL_SOCKET, socket.SCM_RIGHTS, array.array("i", [own] * n))
-                     for n in (1, 2)]
-            for node in (0, 1, 3, 4, 2**32 - 1):
-                for kind in (0, 1, 2):
-                    for lengths in ((0, 0), (16, 0), (29, 0), (16, 513), (16, 10**9), (0, 30)):
-                        head = struct.pack("5I28x", kind, node, 0x0300007f, *lengths)
-                        for part in ([], files[:1], files[1:]):
-                            for size in (0, 10, 48, 60, 70000):
-                                s.sendmsg([(head + bytes(70000))[:size]], part, 0, name)
-            time.sleep(1); show("well")
-            """
-        out = self.on_links(["a,b"], {"a": text})
-        self.assertEqual(out["a"], [["well", SECOND + 1]])
 
 
 if __name__ == "__main__":

@@ -1,5 +1,5 @@
-"""The stamps of packets from another node, with --link and --stamps: the receiver's own time of their
-arrival."""
+"""The stamps of packets from another node, with --link and --stamps: the receiver's own time of
+their arrival."""
 import unittest
 
 from links import ADDRESSES, MILLI, OPTIONS, SECOND, START, LinkTest
@@ -20,8 +20,8 @@ RECEIVE = """
 
 
 class Stamps(LinkTest):
-    options = [*STILL, "--start", START, "--stamps", "--node", f"a,address={ADDRESSES['a']}", "--node",
-               f"b,address={ADDRESSES['b']},error-ppm={PPM},ahead={AHEAD}"]
+    options = [*STILL, "--start", START, "--stamps", "--node", f"a,address={ADDRESSES['a']}",
+               "--node", f"b,address={ADDRESSES['b']},error-ppm={PPM},ahead={AHEAD}"]
 
     def at_b(self, common):
         """What REALTIME of b is at a time of the common counter, after the start of a, in ns."""
@@ -56,8 +56,8 @@ class Stamps(LinkTest):
     def test_what_is_refused(self):
         text = """
             s = udp(*AT_B)
-            for number, value in [(37, 0x19), (37, 0x1a), (37, 0x90), (37, 1 << 15), (63, 1), (64, 1),
-                                  (65, 0x18), (37, 0x18), (37, 0)]:
+            for number, value in [(37, 0x19), (37, 0x1a), (37, 0x90), (37, 1 << 15), (63, 1),
+                                  (64, 1), (65, 0x18), (37, 0x18), (37, 0)]:
                 try: s.setsockopt(socket.SOL_SOCKET, number, value); print("takes", number, value)
                 except OSError as error: print(errno.errorcode[error.errno], number)
             """

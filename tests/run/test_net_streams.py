@@ -1,235 +1,16 @@
-"""Connections of TCP between nodes with --link. All times are computed here: a program starts at 0,
-and a sleep of a second ends 1 ns after it."""
+"""The bytes of connections of TCP between nodes with --link. All times are computed here: a program
+starts at 0, and a sleep of a second ends 1 ns after it."""
 import unittest
 import zlib
 
-from links import ADDRESSES, MILLI, PORT, PRELUDE, SECOND, LinkTest
-from runs import CAN_FILTER, CAN_TRACE, TKRUN
+from links import (ADDRESSES, BACK, LINKS, MILLI, NOW, PORT, SECOND, STREAMS, THERE, LinkTest)
+from runs import CAN_FILTER, CAN_TRACE
 
 WINDOW = 4 << 20  # the most bytes of one direction on their way
-# serve prints when a connection, its first bytes and its end have come, and how many bytes with
-# which sum; connect_later doesn't block
-FUNCTIONS = PRELUDE + """
-import zlib
-def listen():
-    global listener
-    listener = socket.create_server(AT_B)
-    listener.settimeout(200)
-def serve(name=""):
-    s, peer = listener.accept()
-    show(name + "accepted", peer == s.getpeername(), peer[0])
-    total = check = 0
-    while data := s.recv(1 << 20):
-        if not total: show(name + "first")
-        total += len(data); check = zlib.crc32(data, check)
-    show(name + "end", total, check)
-    return s
-def connect(to=AT_B, name=None):
-    s = socket.socket()
-    if name: s.bind(name)
-    try: s.connect(to); show("connected", s.getpeername() == to)
-    except OSError as error: show(errno.errorcode[error.errno])
-    return s
-def connect_later(to=AT_B):
-    s = socket.socket(); s.setblocking(False)
-    show(errno.errorcode[s.connect_ex(to)])
-    poll = select.poll(); poll.register(s, select.POLLOUT)
-    poll.poll()
-    error = s.getsockopt(socket.SOL_SOCKET, socket.SO_ERROR)
-    show(errno.errorcode[error] if error else "connected")
-    return s
-"""
-THERE, BACK = 10 * MILLI, 30 * MILLI
-LINKS = ["a,b,delay=10ms", "b,a,delay=30ms"]
-NOW = SECOND + 1  # after the client's sleep
-
-
-class Connections(LinkTest):
-    prelude = FUNCTIONS
-
-    def test_bytes_both_ways(self):
-        out = self.on_links(LINKS, {
-            "b": "listen(); s = serve(); s.sendall(b'back'); s.close(); show('closed')",
-            "a": """
-    time.sleep(1)
-    s = connect(); show(s.getsockname()[0]); s.sendall(b"one"); time.sleep(1); s.sendall(b"two")
-    s.shutdown(socket.SHUT_WR); show(s.recv(9).decode()); show(s.recv(9))
-    """})
-        connected = NOW + THERE + BACK
-        end = connected + SECOND + 1 + THERE
-        self.assertEqual(out["b"], [
-            ["accepted", "True", ADDRESSES["a"], connected + THERE],
-            ["first", connected + THERE], ["end", 6, zlib.crc32(b"onetwo"), end], ["closed", end]])
-        self.assertEqual(out["a"], [
-            ["connected", "True", connected], [ADDRESSES["a"], connected],
-            ["back", end + BACK], ["b''", end + BACK]])
-
-    def test_a_socket_that_does_not_block(self):
-        out = self.on_links(LINKS, {
-            "b": "listen(); serve()",
-            "a": """
-    time.sleep(1)
-    s = connect_later(); show(s.getpeername() == AT_B, s.connect_ex(AT_B), errno.errorcode[s.connect_ex(AT_B)])
-    s.send(b"123456789")
-    """})
-        connected = NOW + THERE + BACK
-        self.assertEqual(out["a"], [["EINPROGRESS", NOW], ["connected", connected],
-                                    ["True", 0, "EISCONN", connected]])
-        self.assertEqual(out["b"][1:], [["first", connected + THERE],
-                                        ["end", 9, zlib.crc32(b"123456789"), connected + THERE]])
-
-    def test_waits_for_a_connection(self):
-        # each way to wait finds out when it is there, and not before
-        out = self.on_links(["a,b,delay=1"], {
-            "b": "l = socket.create_server(AT_B)\nfor _ in range(4): l.accept()",
-            "a": """
-    import asyncio
-    def begin():
-        s = socket.socket(); s.setblocking(False)
-        show(errno.errorcode[s.connect_ex(AT_B)], errno.errorcode[s.connect_ex(AT_B)])
-        return s
-    s = begin(); show(*map(len, select.select([], [s], [], 1.5))); select.select([], [s], []); show()
-    s = begin(); epoll = select.epoll(); epoll.register(s, select.EPOLLOUT | select.EPOLLET)
-    show(epoll.poll(1.5)); show(len(epoll.poll()))
-    s = socket.create_connection(AT_B, timeout=5); show(s.getpeername() == AT_B)
-    async def main():
-        reader, writer = await asyncio.open_connection(*AT_B); show(); writer.close()
-    asyncio.run(main())
-    """})
-        start = out["a"][0][-1]
-        rounded = [[*line[:-1], (line[-1] - start) // 1000 * 1000] for line in out["a"]]
-        begun = ["EINPROGRESS", "EALREADY"]
-        self.assertEqual(rounded, [
-            [*begun, 0], [0, 0, 0, 1500 * MILLI], [2 * SECOND],
-            [*begun, 2 * SECOND], ["[]", 3500 * MILLI], [1, 4 * SECOND],
-            ["True", 6 * SECOND], [8 * SECOND]])
-
-    def test_sockets_of_ipv6_with_addresses_of_ipv4(self):
-        out = self.on_links(LINKS, {
-            "b": """
-    l = socket.socket(socket.AF_INET6)
-    l.setsockopt(socket.SOL_SOCKET, socket.SO_REUSEADDR, 1); l.bind(("::", PORT)); l.listen(5)
-    s, peer = l.accept(); show(peer[0]); show(s.recv(9).decode())
-    """,
-            "a": """
-    time.sleep(1)
-    s = socket.socket(socket.AF_INET6); name = ("::ffff:" + B, PORT, 0, 0)
-    s.connect(name); show(s.getpeername() == name, s.getsockname()[0]); s.send(b"six")
-    s = socket.socket(socket.AF_INET6); s.setblocking(False)
-    show(errno.errorcode[s.connect_ex((name[0], PORT + 1))]); select.select([], [s], [])
-    show(errno.errorcode[s.getsockopt(socket.SOL_SOCKET, socket.SO_ERROR)])
-    """})
-        connected = NOW + THERE + BACK
-        self.assertEqual(out["b"], [["::ffff:" + ADDRESSES["a"], connected + THERE],
-                                    ["six", connected + THERE]])
-        self.assertEqual(out["a"], [["True", "::ffff:" + ADDRESSES["a"], connected],
-                                    ["EINPROGRESS", connected],
-                                    ["ECONNREFUSED", connected + THERE + BACK]])
-
-    def test_the_client_keeps_its_port(self):
-        out = self.on_links(LINKS, {
-            "b": "l = socket.create_server(AT_B)\n"
-                 "for _ in range(3): show(l.accept()[1][1])",
-            "a": "time.sleep(1); connect(name=(A, PORT + 2)); connect(name=('', PORT + 3)); connect()\n"
-                 "show(socket.socket().getsockopt(1, 2))"})
-        self.assertEqual([line[0] for line in out["b"][:2]], [PORT + 2, PORT + 3])
-        self.assertNotIn(out["b"][2][0], [PORT + 2, PORT + 3])
-        self.assertEqual([line[0] for line in out["a"]], ["connected"] * 3 + [0])
-
-    def test_a_port_that_nobody_has(self):
-        for connect in ("connect", "connect_later"):
-            out = self.on_links(LINKS, {"a": f"""
-    time.sleep(1)
-    s = {connect}(); show(s.getsockopt(socket.SOL_SOCKET, socket.SO_ERROR))
-    time.sleep(1); s.setblocking(True)
-    try: s.connect(AT_B)
-    except OSError as error: show(errno.errorcode[error.errno])
-    """})
-            self.assertEqual(out["a"][-3:], [["ECONNREFUSED", NOW + THERE + BACK],
-                                             [0, NOW + THERE + BACK],
-                                             ["ECONNREFUSED", NOW + SECOND + 1 + 2 * (THERE + BACK)]])
-
-    def test_a_port_that_others_have(self):
-        # another node, and the host, listen at the same port
-        out = self.on_links(["a,b,delay=1ms", "a,c,delay=1ms"], {
-            "c": "l = socket.create_server((C, PORT)); time.sleep(9)",
-            "b": "l = socket.create_server(('127.0.0.1', PORT)); "
-                 "m = socket.create_server(('::1', PORT), family=socket.AF_INET6); time.sleep(9)",
-            "a": "time.sleep(1); connect(); connect((C, PORT))"})
-        self.assertEqual([line[0] for line in out["a"]], ["ECONNREFUSED", "connected"])
-
-    def test_a_partition(self):
-        for connect in ("connect", "connect_later"):
-            plan = self.file("plan", "at 0.5 partition a b\nat 500 heal a b\n")
-            out = self.on_links(LINKS, {"b": "listen(); serve()", "a": f"time.sleep(1); {connect}()"},
-                                "--plan", plan)
-            self.assertEqual(out["a"][-1], ["ETIMEDOUT", NOW + 127 * SECOND])
-
-    def test_the_first_packets_are_sent_again(self):
-        # tries at 1, 2, 4, 8 and 16 s; the link is cut for the answer of that at 4 s
-        plan = self.file("plan", "at 0.5 partition a b\nat 3.5 heal a b\nat 4.005 partition a b\n"
-                                 "at 4.02 heal a b\nat 4.1 partition a b\nat 10 heal a b\n")
-        for connect in ("connect", "connect_later"):
-            out = self.on_links(LINKS, {"b": "listen(); serve()", "a": f"time.sleep(1); {connect}(); time.sleep(9)"},
-                                "--plan", plan)
-            connected = 16 * SECOND + 1 + THERE + BACK
-            self.assertEqual(out["a"][-1], ["connected"] + ["True"] * (connect == "connect") +
-                             [connected])
-            self.assertEqual(out["b"][0], ["accepted", "True", ADDRESSES["a"], connected + THERE])
-
-    def test_lost_packets_of_connections(self):
-        # each direction loses half of them: a connection takes 1, 3, 7, .. s more for lost ones
-        def run(seed):
-            out = self.on_links([f"a,b,delay=1ms,loss=0.5,seed={seed}"], {
-                "b": "l = socket.create_server(AT_B)\nwhile True: l.accept()",
-                "a": """
-    time.sleep(1)
-    for _ in range(20):
-        start = now(); connect(); show(now() - start)
-    """})
-            return [line[0] for line in out["a"] if line[0] not in ("connected", "ETIMEDOUT")]
-        spans = run(3)
-        self.assertEqual(run(3), spans)
-        self.assertNotEqual(run(4), spans)
-        tries = [(2**i - 1) * SECOND + 2 * MILLI for i in range(7)] + [127 * SECOND]
-        self.assertLessEqual(set(spans), set(tries))
-        self.assertGreater(len(set(spans)), 2)
-
-    def test_a_signal_interrupts_connect(self):
-        out = self.on_links(["a,b,delay=1"], {
-            "b": "listen(); serve()",
-            "a": """
-    import ctypes
-    libc = ctypes.CDLL(None, use_errno=True)
-    libc.siginterrupt(signal.SIGALRM, 1)
-    handler = ctypes.CFUNCTYPE(None, ctypes.c_int)(lambda number: None)
-    class Action(ctypes.Structure):
-        _fields_ = [("handler", type(handler)), ("rest", ctypes.c_char * 144)]
-    action = Action(handler); libc.sigaction(signal.SIGALRM, ctypes.byref(action), None)
-    signal.setitimer(signal.ITIMER_REAL, 0.5)
-    s = socket.socket()
-    name = struct.pack("!H2s4s8x", 0, struct.pack("!H", PORT), socket.inet_aton(B))
-    name = struct.pack("H", socket.AF_INET) + name[2:]
-    show(libc.connect(s.fileno(), name, 16), errno.errorcode[ctypes.get_errno()])
-    select.select([], [s], []); show(s.getsockopt(socket.SOL_SOCKET, socket.SO_ERROR))
-    s.send(b"x")
-    """})
-        self.assertEqual([line[:-1] for line in out["a"]], [[-1, "EINTR"], [0]])
-        self.assertEqual([line[-1] // 1000 for line in out["a"]], [500000, 2000000])
-        self.assertEqual(out["b"][1], ["first", 3 * SECOND])
-
-    def test_only_the_linked_nodes_have_delays(self):
-        out = self.on_links(["a,b,delay=1"], {
-            "b": "l = socket.create_server(('', PORT))\nfor _ in range(2): l.accept(); show()",
-            "c": "time.sleep(1); connect()"},
-            before=f"{TKRUN} node b -- python3 -c \"import socket, time; time.sleep(0.5); "
-                   f"socket.create_connection(('{ADDRESSES['b']}', {PORT}))\" &")
-        self.assertEqual(out["b"], [[SECOND // 2 + 1], [NOW]])
-        self.assertEqual(out["c"], [["connected", "True", NOW]])
 
 
 class Streams(LinkTest):
-    prelude = FUNCTIONS
+    prelude = STREAMS
 
     def test_a_rate(self):
         # 10 MB at 10 Mbit/s take 8 s, in whatever pieces they are written
@@ -248,6 +29,12 @@ class Streams(LinkTest):
             # back pressure: a part is on its way and in buffers when the last one is written
             sent = out["a"][-1][1] - NOW
             self.assertTrue(span // 10 < sent < span, sent)
+
+    def test_a_queue_that_is_shorter_than_the_delay(self):
+        # it never becomes empty: 1 MB at 10 Mbit/s take 0.8 s
+        out = self.on_links(["a,b,delay=1,rate=10M,queue=10k"], {
+            "b": "listen(); serve()", "a": "time.sleep(1); connect().sendall(bytes(10**6))"})
+        self.assertEqual(out["b"][-1][-1], NOW + 2 * SECOND + 800 * MILLI + SECOND)
 
     def test_the_bytes_are_right(self):
         for link in ["delay=3ms", "delay=1ms,jitter=20ms,rate=1G", "rate=100M,queue=0"]:
@@ -296,7 +83,7 @@ class Streams(LinkTest):
         out = self.on_links(["a,b,delay=1ms"], {
             "b": "l = socket.create_server(AT_B); s = l.accept()[0]; time.sleep(100)\n"
                  "total = 0\nwhile n := len(s.recv(1 << 20)): total += n\nshow(total)",
-            "a": "time.sleep(1); s = connect(); s.sendall(bytes(3 * 10**7)); show('sent'); s.close()"})
+            "a": "time.sleep(1); s = connect(); s.sendall(bytes(3 * 10**7)); show('sent')"})
         self.assertEqual(out["b"][0][0], 3 * 10**7)
         self.assertGreater(out["a"][-1][-1], 100 * SECOND)
 
@@ -347,10 +134,11 @@ class Streams(LinkTest):
 try: s.recv(9)
 except OSError as error: show(errno.errorcode[error.errno])
 """
-        abort = "s.setsockopt(socket.SOL_SOCKET, socket.SO_LINGER, struct.pack('ii', 1, 0)); s.close()"
+        abort = "reset(s)"
         accept = "l = socket.create_server(AT_B); s = l.accept()[0]"
         connected = NOW + THERE + BACK
-        out = self.on_links(LINKS, {"b": accept + wait, "a": f"time.sleep(1); s = connect(); {abort}"})
+        out = self.on_links(LINKS, {"b": accept + wait,
+                                    "a": f"time.sleep(1); s = connect(); {abort}"})
         self.assertEqual(out["b"], [["ECONNRESET", connected + THERE]])
         out = self.on_links(LINKS, {"b": accept + f"; time.sleep(1); {abort}",
                                     "a": "time.sleep(1); s = connect()" + wait +
@@ -371,7 +159,7 @@ except OSError as error: show(errno.errorcode[error.errno])
     def test_a_reset_is_an_error_of_poll(self):
         out = self.on_links(LINKS, {
             "b": "l = socket.create_server(AT_B); s = l.accept()[0]; time.sleep(1)\n"
-                 "s.setsockopt(socket.SOL_SOCKET, socket.SO_LINGER, struct.pack('ii', 1, 0)); s.close()",
+                 "reset(s)",
             "a": """
     time.sleep(1)
     s = connect(); poll = select.poll(); poll.register(s, select.POLLIN)
@@ -459,7 +247,8 @@ except OSError as error: show(errno.errorcode[error.errno])
 
     def test_a_record(self):
         self.on_links(LINKS, {"b": "listen(); serve()",
-                              "a": "time.sleep(1); s = connect(); s.sendall(bytes(10**6))"}, "--check")
+                              "a": "time.sleep(1); s = connect(); s.sendall(bytes(10**6))"},
+                      "--check")
 
     def test_the_same_run_twice(self):
         # two clients at once, with jitter and a rate
@@ -472,16 +261,14 @@ except OSError as error: show(errno.errorcode[error.errno])
 
     def test_no_file_stays_open(self):
         # of tkrun, which is the parent of the shell: after connections and datagrams of each ending
-        plan = self.file("plan", "at 20 partition a b\nat 200 heal a b\n")
+        plan = self.file("plan", "at 200 partition a b\nat 500 heal a b\n")
         out = self.on_links(["a,b,delay=1ms,loss=0.2", "b,c"], {
             "b": """
     listen(); s = udp(*AT_B)
-    abort = struct.pack("ii", 1, 0)
     for i in range(9):
         c = listener.accept()[0]
         if i % 3: c.recv(9)
-        if i % 3 == 2: c.setsockopt(socket.SOL_SOCKET, socket.SO_LINGER, abort)
-        c.close()
+        if i % 3 == 2: reset(c)
     time.sleep(9999)
     """, "a": """
     def files():
@@ -490,10 +277,12 @@ except OSError as error: show(errno.errorcode[error.errno])
     time.sleep(1); before = files()
     for i in range(9): s = connect(); s.send(b"1"); s.close()
     for i in range(20): udp().sendto(b"1", AT_B)
+    s = udp()
+    for i in range(20): s.sendto(b"1", AT_B)
     for i in range(3): connect((B, PORT + 1)); connect_later((B, PORT + 1))
-    time.sleep(30 - now() / 1e9)
+    time.sleep(210 - now() / 1e9)
     connect(); udp().sendto(b"1", AT_B)
-    time.sleep(300); print("files", files() - before)
+    time.sleep(500); print("files", files() - before)
     """}, "--plan", plan)
         self.assertEqual(out["a"][-1], ["files", 0])
         self.assertEqual([line[0] for line in out["a"]].count("ECONNREFUSED"), 6)
