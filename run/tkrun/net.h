@@ -79,8 +79,8 @@ bool opening_is_heard(const struct sockaddr_in *server);
 /* Makes an opening, whose server will see the client's name. */
 struct opening *opening_begin(const struct sockaddr_in *client, const struct sockaddr_in *server);
 
-/* Stores the file of the connection, or -1. Returns an errno, and EINPROGRESS if the server can't
- * accept yet. */
+/* Stores the file of the connection, or -1. Returns an errno. With EINPROGRESS the server has no
+ * room for a connection, and it is to be tried again when programs have run. */
 int opening_try(struct opening *opening, int *file);
 void opening_end(struct opening *opening);
 

@@ -116,7 +116,6 @@ static void arrive(struct flight *flight, uint64_t now)
 	free(datagram);
 }
 
-/* A lost datagram takes as many random numbers as another one. */
 void take_datagram(const struct message *message, const char *bytes, size_t length, int file,
 		   uint64_t now)
 {

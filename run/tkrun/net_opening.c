@@ -21,7 +21,6 @@ enum {
 struct opening {
 	struct sockaddr_in server;
 	int file; /* or -1 */
-	bool is_begun;
 };
 
 int net_make_socket(void)
@@ -122,20 +121,24 @@ struct opening *opening_begin(const struct sockaddr_in *client, const struct soc
 	return opening;
 }
 
-/* Begins to connect. Returns an errno. */
-static int begin(struct opening *opening)
+/* Tries to connect. Returns an errno. If the server has no room for another connection, the kernel
+ * would try again by the host's time. So that is ended, and the socket keeps its name. */
+static int try_once(const struct opening *opening)
 {
 	const struct sockaddr *name = (const struct sockaddr *)&opening->server;
+	const struct sockaddr none = { .sa_family = AF_UNSPEC };
+	int error = 0;
 
-	opening->is_begun = true;
-	if (!connect(opening->file, name, sizeof(opening->server)))
-		return 0;
-	return errno == EINPROGRESS ? net_state_of(opening->file, 0) : errno;
+	if (connect(opening->file, name, sizeof(opening->server)))
+		error = errno == EINPROGRESS ? net_state_of(opening->file, 0) : errno;
+	if (error == EINPROGRESS)
+		connect(opening->file, &none, sizeof(none));
+	return error;
 }
 
 int opening_try(struct opening *opening, int *file)
 {
-	int error = opening->is_begun ? net_state_of(opening->file, 0) : begin(opening);
+	int error = try_once(opening);
 
 	*file = -1;
 	if (error == EINPROGRESS)

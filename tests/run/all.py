@@ -13,7 +13,9 @@ import unittest
 
 FOLDER = pathlib.Path(__file__).parent
 BESIDE = [["test_chrony"], ["test_kernel", "test_python", "test_faketime"],
-          ["test_masks", "test_waits"], ["test_nodes", "test_node_events"]]
+          ["test_masks", "test_waits"], ["test_nodes", "test_node_events"],
+          ["test_net_chrony", "test_net_connections", "test_net_datagrams", "test_net_options",
+           "test_net_programs", "test_net_stamps", "test_net_streams"]]
 LONG = ["test_postgresql", "test_redis", "test_nginx", "test_many_kills"]
 
 

@@ -6,6 +6,22 @@ import zlib
 from links import (ADDRESSES, BACK, LINKS, MILLI, NOW, PORT, SECOND, STREAMS, THERE, LinkTest)
 from runs import TKRUN
 
+# connects, and is interrupted after half a second
+INTERRUPTED = """
+    import ctypes
+    libc = ctypes.CDLL(None, use_errno=True)
+    libc.siginterrupt(signal.SIGALRM, 1)
+    handler = ctypes.CFUNCTYPE(None, ctypes.c_int)(lambda number: None)
+    class Action(ctypes.Structure):
+        _fields_ = [("handler", type(handler)), ("rest", ctypes.c_char * 144)]
+    action = Action(handler); libc.sigaction(signal.SIGALRM, ctypes.byref(action), None)
+    signal.setitimer(signal.ITIMER_REAL, 0.5)
+    s = socket.socket()
+    name = struct.pack("!H2s4s8x", 0, struct.pack("!H", PORT), socket.inet_aton(B))
+    name = struct.pack("H", socket.AF_INET) + name[2:]
+    show(libc.connect(s.fileno(), name, 16), errno.errorcode[ctypes.get_errno()])
+"""
+
 
 class Connections(LinkTest):
     prelude = STREAMS
@@ -96,7 +112,7 @@ class Connections(LinkTest):
             "b": "l = socket.create_server(AT_B)\n"
                  "for _ in range(3): show(l.accept()[1][1])",
             "a": "time.sleep(1); connect(name=(A, PORT + 2)); connect(name=('', PORT + 3))\n"
-                 "connect(); show(socket.socket().getsockopt(1, 2))"})
+                 "s = connect(); show(s.getsockopt(socket.SOL_SOCKET, socket.SO_REUSEADDR))"})
         self.assertEqual([line[0] for line in out["b"][:2]], [PORT + 2, PORT + 3])
         self.assertNotIn(out["b"][2][0], [PORT + 2, PORT + 3])
         self.assertEqual([line[0] for line in out["a"]], ["connected"] * 3 + [0])
@@ -162,22 +178,41 @@ class Connections(LinkTest):
         self.assertLessEqual(set(spans), set(tries))
         self.assertGreater(len(set(spans)), 2)
 
+    def test_a_signal_before_a_refusal(self):
+        # connect was interrupted, so the error comes later
+        out = self.on_links(["a,b,delay=1"], {"a": INTERRUPTED + """
+    select.select([], [s], [])
+    show(errno.errorcode[s.getsockopt(socket.SOL_SOCKET, socket.SO_ERROR)])
+    """})
+        self.assertEqual([[*line[:-1], line[-1] // 1000] for line in out["a"]],
+                         [[-1, "EINTR", 500000], ["ECONNREFUSED", 2000000]])
+
+    def test_a_server_that_ends_before_it_accepts(self):
+        # the answer has been sent, but nobody listens when the last packet comes
+        for close, error in [("l.close()", "ECONNRESET"), ("l.shutdown(2)", "ECONNRESET")]:
+            out = self.on_links(LINKS, {
+                "b": f"l = socket.create_server(AT_B); time.sleep(1.02); {close}; time.sleep(9)",
+                "a": """
+    time.sleep(1); s = connect(); s.send(b"1")
+    try: s.recv(9)
+    except OSError as error: show(errno.errorcode[error.errno])
+    """})
+            self.assertEqual(out["a"], [["connected", "True", NOW + THERE + BACK],
+                                        [error, NOW + 2 * (THERE + BACK)]])
+
+    def test_a_full_backlog(self):
+        # the server accepts when it can, and no byte is lost
+        out = self.on_links(["a,b,delay=1ms"], {
+            "b": """
+    l = socket.create_server(AT_B, backlog=1); time.sleep(3)
+    for _ in range(5): s = l.accept()[0]; show(s.recv(9).decode())
+    """, "a": "time.sleep(1)\nfor i in range(5): connect().send(b'%d' % i)\ntime.sleep(99)"})
+        self.assertEqual(sorted(line[0] for line in out["b"]), list(range(5)))
+
     def test_a_signal_interrupts_connect(self):
         out = self.on_links(["a,b,delay=1"], {
             "b": "listen(); serve()",
-            "a": """
-    import ctypes
-    libc = ctypes.CDLL(None, use_errno=True)
-    libc.siginterrupt(signal.SIGALRM, 1)
-    handler = ctypes.CFUNCTYPE(None, ctypes.c_int)(lambda number: None)
-    class Action(ctypes.Structure):
-        _fields_ = [("handler", type(handler)), ("rest", ctypes.c_char * 144)]
-    action = Action(handler); libc.sigaction(signal.SIGALRM, ctypes.byref(action), None)
-    signal.setitimer(signal.ITIMER_REAL, 0.5)
-    s = socket.socket()
-    name = struct.pack("!H2s4s8x", 0, struct.pack("!H", PORT), socket.inet_aton(B))
-    name = struct.pack("H", socket.AF_INET) + name[2:]
-    show(libc.connect(s.fileno(), name, 16), errno.errorcode[ctypes.get_errno()])
+            "a": INTERRUPTED + """
     select.select([], [s], []); show(s.getsockopt(socket.SOL_SOCKET, socket.SO_ERROR))
     s.send(b"x")
     """})

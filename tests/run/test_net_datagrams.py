@@ -139,6 +139,19 @@ class Datagrams(LinkTest):
         self.assertEqual(run(",loss=1"), [])
         self.assertEqual(run(",loss=0"), list(range(100)))
 
+    def test_links_lose_by_their_own_numbers(self):
+        out = self.on_links(["a,b,loss=0.5", "a,c,loss=0.5"], {
+            "a": """
+                s = udp()
+                for i in range(50):
+                    time.sleep(0.001)
+                    for node in (B, C): s.sendto(b"%d" % i, (node, PORT))
+                """,
+            "b": RECEIVE_SOME.format(1), "c": RECEIVE_SOME.format(1).replace("*AT_B", "C, PORT")})
+        one, other = arrivals(out["b"])[0], arrivals(out["c"])[0]
+        self.assertTrue(10 < len(one) < 40 and 10 < len(other) < 40, out)
+        self.assertNotEqual(one, other)
+
     def test_directions_lose_by_their_own_numbers(self):
         echo = """
             s = udp(*AT_B); s.settimeout(1)
