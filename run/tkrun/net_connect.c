@@ -4,7 +4,8 @@
  * answer, take the time of the link, and are sent again if they are lost.
  *
  * Meanwhile the client's socket must look as if it were connecting. So it connects to a guard: a
- * listening socket of tkrun that drops all packets. When the answer arrives, tkrun connects another
+ * listening socket of tkrun that drops its packets, since the guard already has one connection, and
+ * has no room for another. When the answer arrives, tkrun connects another
  * socket, with the guard's address, to the client's socket. TCP lets two sockets connect to each
  * other at once. The server accepts when the client's last packet has arrived.
  */
@@ -14,7 +15,6 @@
 
 #include <errno.h>
 #include <fcntl.h>
-#include <linux/filter.h>
 #include <netinet/tcp.h>
 #include <poll.h>
 #include <stdlib.h>
@@ -31,7 +31,7 @@ struct connection {
 	struct sockaddr_in server_name, guard_name;
 	int client; /* the program's socket */
 	int answer; /* gets the errno, or -1: the socket doesn't block */
-	int guard;
+	int guard, filler; /* and its connection */
 	int error; /* of the server's node */
 	unsigned int attempts;
 	size_t flights;
@@ -59,6 +59,13 @@ static void close_file(int *file)
 	*file = -1;
 }
 
+static void close_files(struct connection *connection)
+{
+	close_file(&connection->guard);
+	close_file(&connection->filler);
+	close_file(&connection->client);
+}
+
 /* Frees a connection that is done when no packet of it is on its way. */
 static void let_go(struct connection *connection)
 {
@@ -70,8 +77,6 @@ static void let_go(struct connection *connection)
 /* Opens the guard, whose address stands for the server's. */
 static bool open_guard(struct connection *connection)
 {
-	struct sock_filter drop = BPF_STMT(BPF_RET | BPF_K, 0);
-	struct sock_fprog program = { 1, &drop };
 	struct sockaddr_in name = {
 		.sin_family = AF_INET,
 		.sin_addr.s_addr = relay_address(connection->there->options.to,
@@ -79,12 +84,12 @@ static bool open_guard(struct connection *connection)
 	};
 
 	connection->guard = net_make_socket();
-	if (setsockopt(connection->guard, SOL_SOCKET, SO_ATTACH_FILTER, &program,
-		       sizeof(program)) ||
-	    net_call_with(bind, connection->guard, &name) || listen(connection->guard, 1))
+	if (net_call_with(bind, connection->guard, &name) || listen(connection->guard, 0))
 		return false;
 	connection->guard_name = net_name(connection->guard);
-	return true;
+	connection->filler = net_make_socket();
+	net_call_with(connect, connection->filler, &connection->guard_name);
+	return !net_state_of(connection->filler, WAIT_MILLIS);
 }
 
 /* Lets the client's socket begin to connect to the guard, without a wait. Returns an errno. */
@@ -168,8 +173,7 @@ static void finish(struct connection *connection, int error, uint64_t now)
 		stream_open(file, begin_opening(connection), connection->there->options.from,
 			    connection->there->options.to, now);
 	send_answer(&connection->answer, 0);
-	close_file(&connection->guard);
-	close_file(&connection->client);
+	close_files(connection);
 }
 
 static void begin_packet(struct connection *connection, struct link *link, uint64_t arrival,
@@ -250,8 +254,7 @@ static void begin(struct connection *connection, uint64_t now)
 		return;
 	}
 	send_answer(&connection->answer, error);
-	close_file(&connection->guard);
-	close_file(&connection->client);
+	close_files(connection);
 	free(connection);
 }
 
@@ -269,6 +272,7 @@ void take_connection(const struct message *message, int file, int answer, uint64
 		.client = file,
 		.answer = answer,
 		.guard = -1,
+		.filler = -1,
 	};
 	if (answer >= 0 && connection->there) {
 		begin(connection, now);

@@ -1,11 +1,13 @@
 """Programs that send over a link: killed ones, many sockets, and those without the folder of the
 clocks, without its user, or without the library."""
+import os
 import re
 import resource
 import unittest
 
-from links import OPTIONS, SECOND, LinkTest
-from runs import CAN_FILTER, CAN_TRACE, IS_ROOT, TKRUN, needs_root, program
+from links import ADDRESSES, OPTIONS, PORT, SECOND, LinkTest
+from runs import (CAN_FILTER, CAN_TRACE, IS_ROOT, OTHER, TKRUN, call, needs, needs_root,
+                  program)
 from test_net_datagrams import RECEIVE_SOME, SEND_SOME, SENDS, TEXTS
 
 
@@ -84,6 +86,18 @@ class Programs(LinkTest):
             "b": RECEIVE_SOME.format(4),
             "a": "s = udp(); os.setuid(65531); s.sendto(b'1', AT_B); udp().sendto(b'2', AT_B)"})
         self.assertEqual(out["b"], [[1, SECOND], [2, SECOND]])
+
+    @needs_root("starts tkrun as another user")
+    @needs("bash")
+    def test_a_run_of_another_user(self):
+        tkrun = self.share() / "bin/tkrun"
+        client = f"echo </dev/tcp/{ADDRESSES['b']}/{PORT}; date +%s.%N"
+        text = f"for i in 1 2; do {tkrun} node a -- bash -c '{client}'; done"
+        options = [*map(str, OPTIONS), "--quiet", "--link", "a,b,delay=1"]
+        run = call([*OTHER, tkrun, *options, "--", "bash", "-c", text], cwd="/",
+                   env={**os.environ, "PATH": "/usr/bin:/bin"})
+        self.assertEqual((run.returncode, run.stdout), (0, "2002.000000000\n2004.000000000\n"))
+        self.assertEqual(run.stderr.count("connect: Connection refused"), 2, run.stderr)
 
     @unittest.skipUnless(CAN_FILTER and CAN_TRACE, "the kernel lets tkrun trace no program")
     def test_programs_without_the_library_are_named(self):
