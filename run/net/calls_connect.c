@@ -1,7 +1,7 @@
 /* SPDX-License-Identifier: MIT OR Apache-2.0 */
 /*
- * calls_connect.c - connections. Those of UDP get the address of the node. Those of TCP are made by
- * tkrun, and lead to it: its address stands for the server's.
+ * calls_connect.c - connections. Those of UDP, and those within the node, get its address. Those of
+ * TCP to other nodes are made by tkrun, and lead to it: its address stands for the server's.
  */
 #define _GNU_SOURCE
 #include "net.h"
@@ -72,7 +72,7 @@ EXPORT int connect(int file, __CONST_SOCKADDR_ARG to, socklen_t length)
 	uint32_t address = net_address(to.__sockaddr__, length);
 	int type = address ? net_type(file) : -1, saved = errno, error;
 
-	if (type == SOCK_DGRAM)
+	if (type == SOCK_DGRAM || net_is_own(to.__sockaddr__, length))
 		net_bind(file, net_peers()->own);
 	if (type != SOCK_STREAM || is_in_use(file))
 		return REAL(connect)(file, to, length);

@@ -32,8 +32,10 @@ void *net_real_call(const char *name);
 const struct peers *net_peers(void);
 uint32_t net_node(void);
 
-/* Returns the address of IPv4, in the network's order, to which there is a link, or 0. */
-uint32_t net_address(const struct sockaddr *address, socklen_t length);
+/* Returns the address of IPv4, in the network's order, to which there is a link, or 0. The other
+ * returns whether it is that of this node. */
+uint32_t net_address(const struct sockaddr *name, socklen_t length);
+bool net_is_own(const struct sockaddr *name, socklen_t length);
 
 /* Returns the type of a socket, such as SOCK_DGRAM, or -1. It keeps errno. */
 int net_type(int file);

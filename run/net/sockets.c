@@ -17,22 +17,33 @@ static uint32_t mapped_address(const struct sockaddr_in6 *six)
 	return address;
 }
 
-uint32_t net_address(const struct sockaddr *address, socklen_t length)
+/* Returns the address of IPv4 that a name has, or 0. */
+static uint32_t address_in(const struct sockaddr *name, socklen_t length)
+{
+	if (length >= sizeof(struct sockaddr_in) && name->sa_family == AF_INET)
+		return ((const struct sockaddr_in *)name)->sin_addr.s_addr;
+	if (length >= sizeof(struct sockaddr_in6) && name->sa_family == AF_INET6)
+		return mapped_address((const struct sockaddr_in6 *)name);
+	return 0;
+}
+
+uint32_t net_address(const struct sockaddr *name, socklen_t length)
 {
 	const struct peers *peers = net_peers();
-	uint32_t found = 0;
+	uint32_t found = peers && name ? address_in(name, length) : 0;
 
-	if (!peers || !address)
-		return 0;
-	if (length >= sizeof(struct sockaddr_in) && address->sa_family == AF_INET)
-		found = ((const struct sockaddr_in *)address)->sin_addr.s_addr;
-	else if (length >= sizeof(struct sockaddr_in6) && address->sa_family == AF_INET6)
-		found = mapped_address((const struct sockaddr_in6 *)address);
 	for (uint32_t i = 0; found && i < PEERS_MOST; i++) {
 		if (peers->of[i] == found)
 			return found;
 	}
 	return 0;
+}
+
+bool net_is_own(const struct sockaddr *name, socklen_t length)
+{
+	const struct peers *peers = net_peers();
+
+	return peers && name && address_in(name, length) == peers->own;
 }
 
 int net_type(int file)

@@ -117,6 +117,16 @@ class Connections(LinkTest):
         self.assertNotIn(out["b"][2][0], [PORT + 2, PORT + 3])
         self.assertEqual([line[0] for line in out["a"]], ["connected"] * 3 + [0])
 
+    def test_connections_within_a_node_have_its_address(self):
+        out = self.on_links(["a,b,delay=1"], {"a": """
+    own = A, PORT
+    server, peer = socket.create_server(own), udp(*own); time.sleep(1)
+    s = connect(own); print(s.getsockname()[0], server.accept()[1][0])
+    s = udp(); s.connect(own); s.send(b"1"); print(peer.recvfrom(9)[1][0]); show()
+    """})
+        own = ADDRESSES["a"]
+        self.assertEqual(out["a"], [["connected", "True", NOW], [own, own], [own], [NOW]])
+
     def test_a_port_that_nobody_has(self):
         for connect in ("connect", "connect_later"):
             out = self.on_links(LINKS, {"a": f"""
