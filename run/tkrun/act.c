@@ -1,7 +1,7 @@
 /* SPDX-License-Identifier: MIT OR Apache-2.0 */
 /* act.c - lets events happen to the clocks of nodes. */
 #define _GNU_SOURCE
-#include "tkrun.h"
+#include "net.h"
 
 #include <inttypes.h>
 #include <stdio.h>
@@ -93,6 +93,9 @@ enum tkc_code act(struct run *run, const struct event *event)
 		return machine_command(machine, TKC_CMD_RESUME, event->sec, event->nsec);
 	case ACTION_LEAP:
 		return insert_leap(machine);
+	case ACTION_PARTITION:
+	case ACTION_HEAL:
+		links_cut(event->node, event->other, event->action == ACTION_PARTITION);
 	}
 	return TKC_OK;
 }

@@ -7,6 +7,7 @@
 #include "moving.h"
 
 #include "idle.h"
+#include "net.h"
 
 enum { SPIN_NANOS = 1000000 }; /* a thread that has read for so long spins */
 
@@ -62,7 +63,8 @@ bool follow_spin(struct run *run)
 
 	if ((double)(common - run->elapsed) * unit < SPIN_NANOS)
 		return false;
-	is_due = events_next() <= common || before_wander(run, common) < common;
+	is_due = events_next() <= common || net_next() <= common ||
+		 before_wander(run, common) < common;
 	for (size_t i = 0; i < run->count && !is_due; i++) {
 		struct node *node = &run->nodes[i];
 		uint64_t order = plan_left(&node->plan, &node->machine);

@@ -3,6 +3,7 @@
 #define _GNU_SOURCE
 #include "idle.h"
 #include "moving.h"
+#include "net.h"
 
 #include <stdlib.h>
 #include <sys/syscall.h>
@@ -160,12 +161,13 @@ uint64_t common_after(const struct node *node, uint64_t cycles)
 			   atomic_load(&node->machine.shared->cycles) + cycles);
 }
 
-/* Returns the common counter at the first of the threads' times, the orders and the events of all
- * nodes. Returns NEVER if there is none, or a thread is about to wait for a time that has come. */
+/* Returns the common counter at the first of the threads' times, the orders, the events and the
+ * arrivals of all nodes. Returns NEVER if there is none, or a thread is about to wait for a time
+ * that has come. */
 static uint64_t find_next(struct run *run)
 {
 	bool is_reached = false, is_due = events_next() <= run->elapsed;
-	uint64_t least = events_next();
+	uint64_t least = events_next(), arrival = net_next();
 
 	for (size_t i = 0; i < run->count; i++) {
 		struct node *node = &run->nodes[i];
@@ -179,6 +181,7 @@ static uint64_t find_next(struct run *run)
 	}
 	if (is_due)
 		return run->elapsed;
+	least = arrival < least ? arrival : least;
 	return is_reached ? NEVER : least;
 }
 
@@ -204,6 +207,7 @@ static void move_node(struct node *node, uint64_t common)
 	if (!machine_is_asleep(machine))
 		machine_apply(machine, &update, 1);
 	machine_unlock(machine, &saved);
+	moves_note(machine);
 }
 
 /* Returns whether all threads of all nodes wait. A thread may look at rest, then act on its time
@@ -263,7 +267,7 @@ bool move_counter(struct run *run)
 	run->tree.has_filter = run->listener >= 0;
 	if (!all_wait(run))
 		return follow_spin(run);
-	if (run->count > 1 && control_serve(run))
+	if (run->count > 1 && (control_serve(run) || net_serve(run->elapsed)))
 		return false;
 	if (follow_reads(run))
 		return true;

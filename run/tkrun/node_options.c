@@ -9,11 +9,12 @@
 #include <string.h>
 
 /* A record R has the file R.rows while the program runs, R.nodes next to those of the nodes, which
- * contains the true time by its name, and R.readers with --readers. */
-static const char *const RESERVED[] = { "rows", "nodes", "readers", TRUE_NAME };
+ * contains the true time by its name, and R.readers with --readers. The others are commands of
+ * `tkrun ctl`. */
+static const char *const RESERVED[] = { "rows", "nodes", "readers", TRUE_NAME, "partition", "heal" };
 
-static const char *const OPTIONS[] = { "error-ppm", "start", "ahead", "uptime", "script",
-				       "hz",	    "bits",  "maxsec", "wander-ppm", "seed" };
+static const char *const OPTIONS[] = { "error-ppm",  "start", "ahead", "uptime", "script", "hz",
+				       "bits",	     "maxsec", "wander-ppm", "seed", "address" };
 
 bool is_node_name(const char *text)
 {
@@ -25,6 +26,15 @@ bool is_node_name(const char *text)
 			return false;
 	}
 	return !text[length] && length <= NODE_NAME_MOST && isalpha((unsigned char)*text);
+}
+
+size_t find_node(const struct options *options, const char *name)
+{
+	size_t i = options->node_count;
+
+	while (i && strcmp(options->nodes[i - 1].name, name))
+		i--;
+	return i;
 }
 
 void add_node(struct options *options, const char *words)
@@ -75,7 +85,7 @@ static struct options common_options(const struct options *all)
 {
 	struct options node = *all;
 
-	node.node_count = 0;
+	node.node_count = node.link_count = 0;
 	node.has_start = node.has_lead = node.has_ahead = node.has_uptime = false;
 	node.ahead = 0;
 	node.script = NULL;
@@ -114,6 +124,9 @@ void parse_nodes(struct options *options)
 		for (size_t j = 0; j < i; j++) {
 			if (!strcmp(options->nodes[i].name, options->nodes[j].name))
 				fail(STATUS_WRONG, "two nodes have this name");
+			if (options->nodes[i].address &&
+			    options->nodes[i].address == options->nodes[j].address)
+				fail(STATUS_WRONG, "two nodes have this address");
 		}
 		fail_within(NULL);
 	}

@@ -14,39 +14,6 @@
 
 enum { READS_MOST = 10000000 }; /* in a record: 26 scripts */
 
-static const char USAGE[] =
-	"usage: tkrun [OPTIONS] -- PROGRAM ARGS..\n"
-	"       tkrun node NAME -- PROGRAM ARGS..\n"
-	"       tkrun ctl NODE step|freq|suspend|leap [VALUE]\n"
-	"       tkrun merge RECORD\n"
-	"  --counter raw|tsc|sleeps  the counter (raw)\n"
-	"  --hz N, --bits N, --maxsec N\n"
-	"                            its description (1000000000 or the TSC's, 64, 1)\n"
-	"  --read-cost NS            each read moves --counter sleeps by that much (0)\n"
-	"  --error-ppm X             it runs so much faster than described (0)\n"
-	"  --speed N                 it runs N times as fast as the host (1)\n"
-	"  --start TIME              REALTIME at the start: SEC[.NSEC] or\n"
-	"                            YYYY-MM-DDThh:mm:ss[.NSEC]Z (the host's), or\n"
-	"                            [+-]N[s|m|h|d|y] from the host's; ' xN' sets --speed too\n"
-	"  --ahead SEC               or its lead over the host's REALTIME\n"
-	"  --uptime SEC[.NSEC]       MONOTONIC and BOOTTIME at the start (0)\n"
-	"  --script FILE             opens and commands the clocks by a tkcore script\n"
-	"  --record FILE             records all commands, and reads\n"
-	"  --every N                 records each Nth read of a thread (1)\n"
-	"  --reads N                 records at most N reads (10000000)\n"
-	"  --readers                 writes who made each read of the record\n"
-	"  --check                   replays the record by tkcore, and compares\n"
-	"  --deny-set                calls that set the clocks get EPERM\n"
-	"  --stamps                  converts the kernel's stamps of packets\n"
-	"  --log FILE                writes a line for each call that sets the clocks\n"
-	"  --node NAME[,OPTION=VALUE]..\n"
-	"                            a machine with its own clocks, any number: `tkrun node` runs\n"
-	"                            programs there\n"
-	"  --plan FILE               what happens to nodes: lines `at SEC NODE COMMAND [VALUE]`\n"
-	"  --lax                     a program on the host's clocks doesn't end the run\n"
-	"  --static                  starts nothing if tkrun can't answer system calls\n"
-	"  --quiet                   prints no summary\n";
-
 static const char *node_name;
 
 void fail_within(const char *name)
@@ -170,6 +137,22 @@ static void set_flag(struct options *o, const char *name)
 	o->is_quiet |= !strcmp(name, "quiet");
 }
 
+/* Parses an option of nodes. Returns false if it is another one. */
+static bool parse_nodes_option(struct options *o, const char *name, const char *value)
+{
+	if (!strcmp(name, "plan"))
+		o->plan = value;
+	else if (!strcmp(name, "node"))
+		add_node(o, value);
+	else if (!strcmp(name, "link"))
+		add_link(o, value);
+	else if (!strcmp(name, "address"))
+		o->address = parse_address(value);
+	else
+		return false;
+	return true;
+}
+
 void parse_option(struct options *o, const char *name, const char *value)
 {
 	if (!strcmp(name, "counter"))
@@ -200,13 +183,9 @@ void parse_option(struct options *o, const char *name, const char *value)
 		o->reads_most = whole(name, value, 0, INT64_MAX);
 	else if (!strcmp(name, "log"))
 		o->log = value;
-	else if (!strcmp(name, "plan"))
-		o->plan = value;
-	else if (!strcmp(name, "node"))
-		add_node(o, value);
 	else if (!strcmp(name, "read-cost"))
 		o->read_cost = whole(name, value, 0, NANOS);
-	else if (!parse_node_option(o, name, value))
+	else if (!parse_nodes_option(o, name, value) && !parse_node_option(o, name, value))
 		set_flag(o, name);
 	o->has_ahead |= !strcmp(name, "ahead");
 	o->has_uptime |= !strcmp(name, "uptime");
@@ -271,6 +250,7 @@ void parse_options(int count, char **words, struct options *options)
 		{ "version", 0, 0, 'v' }, { "reads", 1, 0, 0 },
 		{ "readers", 0, 0, 0 },
 		{ "read-cost", 1, 0, 0 },
+		{ "link", 1, 0, 0 },
 		{ 0, 0, 0, 0 },
 	};
 	int letter, index;
@@ -281,7 +261,7 @@ void parse_options(int count, char **words, struct options *options)
 	};
 	while ((letter = getopt_long(count, words, "+h", LIST, &index)) >= 0) {
 		if (letter == 'h')
-			fputs(USAGE, stdout);
+			print_usage();
 		if (letter == 'v')
 			printf("tkrun %d.%d.%d\n", TKC_VERSION_MAJOR,
 			       TKC_VERSION_MINOR, TKC_VERSION_PATCH);
@@ -296,5 +276,6 @@ void parse_options(int count, char **words, struct options *options)
 		     "no program: tkrun [OPTIONS] -- PROGRAM ARGS..");
 	compare_options(options);
 	parse_nodes(options);
+	parse_links(options);
 	options->program = words + optind;
 }

@@ -7,7 +7,7 @@
  * loaded, and brings the clocks forward until no process is left.
  */
 #define _GNU_SOURCE
-#include "tkrun.h"
+#include "net.h"
 #include "processes/coverage.h"
 #include "processes/uncovered.h"
 #include "record/merge.h"
@@ -183,6 +183,7 @@ static void look_at_reads(const struct machine *machine)
 
 static void remove_all(void)
 {
+	net_remove(the_run.nodes->folder);
 	for (size_t i = the_run.count; i-- > 0;)
 		remove_files(&the_run.nodes[i]);
 }
@@ -201,9 +202,11 @@ static void open_all(struct run *run)
 	for (size_t i = 0; i < run->count; i++) {
 		look_at_reads(&run->nodes[i].machine);
 		run_first_orders(&run->nodes[i]);
+		moves_note(&run->nodes[i].machine);
 	}
 	if (run->count > 1)
 		control_open(run);
+	net_open(run);
 	act_all_due(run);
 }
 
@@ -231,7 +234,7 @@ int main(int count, char **words)
 	if (options->is_lax)
 		uncovered_allow();
 	find_host_clock(run);
-	preload_library();
+	preload_library(options->link_count);
 	if (options->is_checked)
 		find_tkcore();
 	if (options->log)

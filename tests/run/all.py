@@ -18,7 +18,8 @@ FOLDER = pathlib.Path(__file__).parent
 MORE = 1  # modules that run at once, beyond the number of processors
 # the modules that take longest come first
 FIRST = ["test_kernel", "test_nodes", "test_waits", "test_masks", "test_python", "test_chrony",
-         "test_check", "test_calls"]
+         "test_check", "test_calls", "test_net_streams", "test_net_connections",
+         "test_net_datagrams"]
 LONG = ["test_many_kills", "test_postgresql", "test_redis", "test_nginx"]
 
 

@@ -218,7 +218,8 @@ class Faults(RunTest):
         for words in [[], ["a"], ["a", "x" * 2000]]:
             run = call([TKRUN, "ctl", *words])
             self.assertEqual((run.returncode, run.stderr), (
-                2, "tkrun: tkrun ctl NODE step|freq|suspend|leap [VALUE]\n"))
+                2, "tkrun: tkrun ctl NODE step|freq|suspend|leap [VALUE], or "
+                   "tkrun ctl partition|heal NODE NODE\n"))
         run = self.start("--quiet", "--", TKRUN, "ctl", "a", "leap")
         self.assertEqual((run.returncode, run.stderr),
                          (2, "tkrun: ctl: there is no run with --node\n"))
