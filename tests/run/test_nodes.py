@@ -151,7 +151,7 @@ class Nodes(RunTest):
             self.assertTrue(first * 3 // 2 - 2 <= node <= last * 3 // 2 + 2, out)
 
     def test_running_counters_start_at_the_same_moment(self):
-        # the second number of struct shared_page in run/clocks/machine.h, in the file of each node
+        # the second number of struct shared_page in run/clocks/shared.h, in the file of each node
         text = "for page in $TKRUN/page $TKRUN/node.a/page; do od -An -t u8 -j 8 -N 8 $page; done"
         first, second = self.run_on("--node", "a", *self.script(text)).split()
         self.assertEqual(first, second)

@@ -6,7 +6,7 @@ from runs import STILL, TKRUN, RunTest, program
 
 SECOND = 10**9
 CLOCKS = program("nodes_clocks")
-# the numbers of struct shared_page in run/clocks/machine.h by which the counter moves
+# the numbers of struct shared_page in run/clocks/shared.h by which the counter moves
 SCALE = "od -An -t u8 -j 16 -N 8 $TKRUN/page; od -An -t u4 -j 40 -N 4 $TKRUN/page"
 
 
