@@ -178,6 +178,11 @@ int process_status(void)
 	return timekeeping_ntp_status();
 }
 
+s64 process_max_deferment(void)
+{
+	return timekeeping_max_deferment();
+}
+
 /* Returns the MONOTONIC of the coming inserted second. */
 s64 process_leap(void)
 {

@@ -15,6 +15,7 @@ calls:
   - what seconds gain with ntp_tick_adj=: equal but for the unmodified kernel's rounding
   - a TAI offset that puts TAI past the limit of all clocks: EINVAL, where the unmodified kernel has
     no limit
+  - MONOTONIC with the times that the frequencies say, with ticks as rare as the port allows
   - MONOTONIC at the reading of a tick, before and after the tick: it goes back at no tick of the
     port, and does with -DTKC_CONTROL
 
@@ -38,16 +39,15 @@ import kernel  # noqa: E402
 from kernel import Timex  # noqa: E402
 from late import Orders  # noqa: E402
 from model import NANOS, Counter  # noqa: E402
-from ntp import (FREQUENCY, NANO, OFFSET, STA_PLL, STATUS, TICK,  # noqa: E402
-                 Timex as Request)
+from ntp import Timex as Request  # noqa: E402
+from single import compare_tick_adj, pass_limit, swing, ticks_back  # noqa: E402
 from steered_clock import Refused, Steered  # noqa: E402
-from wrong_calls import Wrong, logged, s64, u64  # noqa: E402
+from wrong_calls import Wrong, s64, u64  # noqa: E402
 
 HZ = 250
 STATES = "Ok", "Ins", "Del", "Oop", "Wait", "Error"
 EINVAL = -22
-ADJ_TAI = 0x80
-SETTABLE, LIMIT = 8277292036, 9223372036  # TIME_SETTOD_SEC_MAX, KTIME_SEC_MAX
+SWING_NS = 100  # that MONOTONIC may be off by between rare ticks
 OTHER = 0x123456789abcd  # by how much the other counter's readings are ahead
 COUNTERS = [(64, 8388608, 23), (64, 16777216, 24), (56, 174762667, 22), (32, 3495253333, 26)]
 
@@ -63,7 +63,7 @@ def compile_one(folder, name, dist, *flags):
     calls = ctypes.CDLL(str(out))
     calls.process_time.restype = ctypes.c_int64
     if dist:
-        calls.process_leap.restype = ctypes.c_int64
+        calls.process_leap.restype = calls.process_max_deferment.restype = ctypes.c_int64
     return calls
 
 
@@ -219,54 +219,6 @@ class Timeline(Orders):
         self.compare((clock.last + later) % 2**clock.counter.bits)
 
 
-def pass_limit(calls):
-    """Returns the answer to a TAI offset of 37 s, with REALTIME 12 s below the limit of clocks."""
-    calls.process_boot(64, 8388608, 23, u64(0), s64(0), s64(0), u64(0))
-    calls.process_settime(ctypes.c_int64(SETTABLE - 1), ctypes.c_int64(0), u64(10**7))
-    calls.process_suspend(u64(2 * 10**7))
-    calls.process_resume(u64((LIMIT - 11 - SETTABLE) * NANOS), u64(3 * 10**7))
-    request = Timex.of(modes=ADJ_TAI, constant=37)
-    return calls.process_adjtimex(ctypes.byref(request), u64(4 * 10**7))
-
-
-def ticks_back(calls):
-    """Returns how many of 2,000 ticks let MONOTONIC go back, while offsets change the rate."""
-    calls.process_boot(64, 8388608, 23, u64(0), s64(0), s64(0), u64(0))
-    back = 0
-    for number in range(1, 2001):
-        reading = number * 7 * 10**6
-        before = calls.process_time(1, u64(reading))
-        calls.process_tick(u64(reading))
-        back += calls.process_time(1, u64(reading)) < before
-        if number % 300 == 1:
-            request = Timex.of(modes=OFFSET | STATUS | NANO, status=STA_PLL,
-                               offset=10**8 if number % 600 == 1 else -10**8)
-            calls.process_adjtimex(ctypes.byref(request), u64(reading))
-    return back
-
-
-def gained(calls, tick_adj):
-    """Boots with ntp_tick_adj=, asks for a frequency of 20 ppm, and returns the ns that 10 s gain,
-    and the frequency that a reply then has."""
-    calls.process_boot(64, 8388608, 23, u64(0), s64(tick_adj), s64(0), u64(0))
-    request = Timex.of(modes=FREQUENCY | TICK, freq=20 << 16, tick=10_000)
-    calls.process_adjtimex(ctypes.byref(request), u64(0))
-    for number in range(1, 2501):
-        calls.process_tick(u64(number * 4 * 10**6))
-    reply = Timex.of(modes=0)
-    calls.process_adjtimex(ctypes.byref(reply), u64(10**10))
-    return calls.process_time(1, u64(10**10)) - 10**10, reply.freq
-
-
-def compare_tick_adj(unmodified, port):
-    """Compares what seconds gain with ntp_tick_adj=. The unmodified kernel's rate has a tick's error."""
-    for ns in 0, 30_001, -70_000, 400_000:
-        (old, was), (new, freq) = gained(unmodified, ns), gained(port, ns)
-        if abs(new - 10 * (ns + 20_000)) > 20 or abs(new - old) > 2000 or (was, freq) != (20 << 16,) * 2:
-            sys.exit(f"process: with ntp_tick_adj={ns}, 10 s gain {new} ns, in the unmodified kernel "
-                     f"{old}, and the frequencies are {freq} and {was}")
-
-
 def main():
     if len(sys.argv) not in (2, 3, 4) or sys.argv[1][:1] == "-":
         sys.exit(__doc__)
@@ -281,12 +233,14 @@ def main():
             timeline.step()
         compare_tick_adj(unmodified, port)
         limits = pass_limit(unmodified) >= 0, pass_limit(port)
-        backs = ticks_back(port), ticks_back(control)
+        backs, off = (ticks_back(port), ticks_back(control)), swing(port)
         warned = ctypes.c_int.in_dll(port, "kernel_warnings").value
     if limits != (True, EINVAL):
         sys.exit(f"process: at the limit, the answers are {limits}")
     if backs[0] or not backs[1]:
         sys.exit(f"process: MONOTONIC goes back at {backs[0]} ticks, and {backs[1]} of the control")
+    if off > SWING_NS:
+        sys.exit(f"process: MONOTONIC is off by {off} ns, with ticks as far apart as they may be")
     if warned:
         sys.exit(f"process: the port warned {warned} times")
     kinds = ", ".join(f"{number} of {kind}" for kind, number in timeline.kinds.items())

@@ -119,18 +119,16 @@ static int timekeeping_inject_offset(const struct timespec64 *ts)
 	return tk_errno(code);
 }
 
-/* timekeeping_max_deferment - how long a tick may be left out: half of what a reader can convert */
+/*
+ * timekeeping_max_deferment - how long a tick may be left out: a second
+ *
+ * A reader can convert 34 s and more. But a second makes up for what the last one lagged behind, at a
+ * rate for one second. Where that rate lasts for two seconds or longer, since no tick begins the next
+ * one, it makes up for twice the lag or more, and MONOTONIC swings by milliseconds.
+ */
 u64 timekeeping_max_deferment(void)
 {
-	const struct tk_read_base *tkr = &tk_core.timekeeper.tkr_mono;
-	unsigned int seq;
-	u64 most;
-
-	do {
-		seq = read_seqcount_begin(&tk_core.seq);
-		most = min(tkr->clock->max_idle_ns, U64_MAX >> (tkr->shift + 1));
-	} while (read_seqcount_retry(&tk_core.seq, seq));
-	return most;
+	return NSEC_PER_SEC;
 }
 
 /* Reads the persistent clock: REALTIME, and the time since the boot, which is never more. */
