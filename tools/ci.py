@@ -9,7 +9,7 @@ from checks.run import Run  # noqa: E402
 from checks.stops import Stops  # noqa: E402
 
 CHECKS = ("check_docs", "must_fail", "tests/tools", "check_using", "rt ci", "check_c",
-          "check_bindings", "check_program", "check_run", "check_kernel", "check_web")
+          "check_bindings", "check_program", "check_run", "check_kernel", "check_web", "check_linux")
 LIMIT_SEC = 3600  # no check but the proofs takes longer, on two processors too
 
 
@@ -37,9 +37,11 @@ def check_all(run):
     os.environ["TKCORE"] = str(proofs / "crates/tkcore/out/tkcore")
     run.start("check_kernel", "tools/check_kernel", "--dist", built)
     run.start("check_web", "tools/check_web", "--libraries", libraries, is_beside=True)
+    run.start("check_linux", "tools/check_linux", is_beside=True)
     run.check("check_run", "tools/check_run", "--dist", built)
     run.end("check_kernel")
     run.end("check_web")
+    run.end("check_linux")
 
 
 def prove(run, proofs, libraries, built):

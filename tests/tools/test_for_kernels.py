@@ -28,7 +28,10 @@ class Code:
             elif it := INSTRUCTION.match(line):
                 text = f"{it[2]} {it[3]}".strip()
                 self.places[section][int(it[1], 16)] = len(self.found[section])
-                (self.inserted if text in INSERTED else self.found)[section].append(text)
+                if text in INSERTED:
+                    self.inserted[section].append((text, len(self.found[section])))
+                else:
+                    self.found[section].append(text)
         for section, lines in self.found.items():
             lines[:] = [self.aimed(it, self.places[section]) for it in lines]
         self.entries = {}  # of tables: the section of constants and the offset, where it leads to
@@ -89,7 +92,11 @@ class ForKernels(Case):
         self.assertTrue(any(it[0] in moved for it in old.entries.values()))
         self.assertEqual(4, len(moved))
         for section, lines in moved.items():
-            self.assertEqual(list(INSERTED), lines, section)
+            names = [it.split()[0] for it in old.found[section]]
+            saved = next(at for at, it in enumerate(names) if it != "push")
+            restored = names.index("pop")
+            self.assertEqual(list(zip(INSERTED, (saved, restored))), lines, section)
+            self.assertEqual(1, names.count("ret"), section)
 
     def test_no_access_of_the_kernel_text_needs_an_aligned_stack(self):
         text = self.made(source=TEXT)[1]
@@ -132,4 +139,4 @@ class ForKernels(Case):
         self.assertEqual(1, len(re.findall(r"\.text\S*", said("objdump", "-h", archive))))
         self.assertEqual("", said("nm", "--undefined-only", "--format=just-symbols", archive)
                          .replace("tk_c.o:", "").strip())
-        self.assertIn("tkc_for_kernels_sse", said("nm", archive))
+        self.assertIn("R tkc_for_kernels_sse", said("nm", "--extern-only", archive))
