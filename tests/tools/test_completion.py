@@ -22,8 +22,8 @@ printf '%s\\n' "${{COMPREPLY[@]}}"
 
 
 def options():
-    """Returns the options that run/tkrun/options.c lists."""
-    text = (TOP / "run/tkrun/options.c").read_text(encoding="utf-8")
+    """Returns the options that run/tkrun/usage.c lists."""
+    text = (TOP / "run/tkrun/usage.c").read_text(encoding="utf-8")
     usage = text.partition("USAGE[] =")[2].partition(";\n")[0]
     return sorted({*re.findall(r"--[a-z-]+", usage), "--help", "--version"} - {"--"})
 

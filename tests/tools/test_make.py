@@ -186,7 +186,7 @@ class Make(Case):
                          self.run_tool("tools/assemble", "library", top=self.top))
 
     def test_other_arguments_are_refused(self):
-        usage = "usage: tools/assemble library|program [FOLDER]\n"
+        usage = "usage: tools/assemble library|program|kernel [FOLDER]\n"
         self.assertEqual((0, usage, ""), self.run_tool("tools/assemble", "--help", top=self.top))
         for words in [], ["all"], ["library", "one", "two"]:
             with self.subTest(words):
