@@ -31,8 +31,15 @@ dist/bin/report: dist/lib/libtkcore.a $(REPORT)
 dist/bin/tkrun: dist/lib/libtkcore.a $(wildcard run/*/*)
 	tools/build_run
 
+# both halves run at once, and what each prints stays together
 check: texts all
+	@echo "make: tests what is in dist/, and prints it at the end"
+	+@$(MAKE) --no-print-directory -j2 --output-sync=target check-library check-run
+
+check-library:
 	tools/check_c --built dist
+
+check-run:
 	if [ -x dist/bin/tkcore ]; then tools/check_run; fi
 
 texts:
@@ -46,4 +53,4 @@ install: all
 clean:
 	rm -rf dist
 
-.PHONY: all check texts install clean
+.PHONY: all check check-library check-run texts install clean

@@ -9,7 +9,7 @@ from checks.run import Run  # noqa: E402
 from checks.stops import Stops  # noqa: E402
 
 CHECKS = ("check_docs", "must_fail", "tests/tools", "check_using", "rt ci", "check_c",
-          "check_bindings", "check_program", "check_run", "check_kernel", "check_web")
+          "check_bindings", "check_program", "check_run", "check_kernel", "check_web", "check_linux")
 LIMIT_SEC = 3600  # no check but the proofs takes longer, on two processors too
 
 
@@ -40,6 +40,7 @@ def check_all(run):
     run.check("check_run", "tools/check_run", "--dist", built)
     run.end("check_kernel")
     run.end("check_web")
+    run.check("check_linux", "tools/check_linux")
 
 
 def prove(run, proofs, libraries, built):

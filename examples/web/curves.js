@@ -27,6 +27,7 @@ export class Curves {
         this.changes = [];
         this.reads = []; // that are drawn
         this.allReads = new Reads();
+        this.readers = null; // or who made each of them
         this.marks = [];
         this.stride = 1; // of the quiet changes that are kept
         this.quiet = 0;
@@ -117,12 +118,18 @@ export class Curves {
         const place = this.placeOf(snapshot, reading), base = clock.replace('_coarse', '');
         const isDifferent = stated !== undefined && stated !== nanos;
         this.allReads.add(clock, this.row, place, stated ?? nanos);
+        this.readers?.add(clock, this.row, place, stated ?? nanos);
         this.reach(place);
         if (nanos === null)
             this.mark('get', place ?? this.end, true);
         else if (DRAWN.includes(base) && (isDifferent || this.reads.length < READS_MOST))
             this.reads.push({ clock: base, isCoarse: base !== clock, isDifferent, row: this.row,
                 place: Number(place), ahead: this.aheadOf(base, place, nanos) });
+    }
+
+    /** Returns what the reads show, in words. */
+    readLines() {
+        return [...this.allReads.lines(), ...this.readers?.lines() ?? []];
     }
 
     /** Ends the last line a little after the last record, and returns all that is drawn. */

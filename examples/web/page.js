@@ -9,6 +9,7 @@ const data = JSON.parse($('data').textContent);
 const asked = new URLSearchParams(location.hash.slice(1));
 
 let module = null, worker = null, id = 0, timer = 0;
+let readers = null; // the text that says who made each read, or none
 let shown = { rows: new Map(), starts: [], drawn: null, picture: null };
 let byPowers = asked.has('powers'), here = null, isBusy = false, wanted = null;
 
@@ -60,7 +61,8 @@ function run() {
     isBusy = true;
     say('running', '');
     timer = setTimeout(() => fail(`ended after ${LIMIT / 1000} seconds`), LIMIT);
-    worker.postMessage({ id, module, bytes: new TextEncoder().encode($('script').value) });
+    const bytes = new TextEncoder().encode($('script').value);
+    worker.postMessage({ id, module, bytes, readers });
 }
 
 function take(answer) {
@@ -210,8 +212,25 @@ function setDark(isDark) {
 
 function choose(place) {
     $('examples').value = place;
-    $('script').value = data.examples[place][1];
+    setScript(data.examples[place][1]);
+    run();
+}
+
+/** Shows another script, which has no readers yet. */
+function setScript(text) {
+    $('script').value = text;
     $('script').scrollTop = 0;
+    readers = null;
+}
+
+/** Opens a script, its readers, or both: the file of the readers has this ending. */
+async function openFiles(files) {
+    const isReaders = file => file.name.endsWith('.readers');
+    const script = files.find(file => !isReaders(file)), second = files.find(isReaders);
+    if (script)
+        setScript(await script.text());
+    if (second)
+        readers = await second.text();
     run();
 }
 
@@ -232,10 +251,7 @@ function wire() {
     };
     data.examples.forEach(([name], i) => $('examples').append(new Option(name, i)));
     $('examples').onchange = event => choose(event.target.value);
-    $('file').onchange = async event => {
-        $('script').value = await event.target.files[0].text();
-        run();
-    };
+    $('file').onchange = event => openFiles([...event.target.files]);
     let pause = 0;
     $('script').oninput = () => {
         clearTimeout(pause);

@@ -6,15 +6,59 @@
 import { NANOS } from './library.js';
 import { timeText } from './report.js';
 
-function spanText(nanos) {
+export function spanText(nanos) {
     return `${timeText({ sec: nanos / NANOS, nsec: nanos % NANOS })} s`;
+}
+
+/** Where a clock went back: below its greatest value since it went back last. */
+export class Falls {
+    constructor() {
+        this.greatest = null;
+        this.first = 0; // the record at which it went back first
+        this.count = 0;
+        this.most = { span: 0n };
+    }
+
+    /** Adds a read. Reads of several threads may have another order than their readings, so the
+     * place of the greatest value counts too. */
+    add(row, place, nanos) {
+        const former = this.greatest;
+        const isBack = former && nanos < former.nanos && place >= former.place;
+        if (isBack)
+            this.fall(row, former.nanos - nanos);
+        if (!former || isBack || nanos > former.nanos)
+            this.greatest = { nanos, place };
+    }
+
+    fall(row, span) {
+        this.first ||= row;
+        this.count++;
+        if (span > this.most.span)
+            this.most = { span, row };
+    }
+
+    text() {
+        return `${this.count === 1 ? 'once,' : `${this.count} times, at most`} by ${
+            spanText(this.most.span)} at record ${this.most.row}`;
+    }
+}
+
+/** Returns the value of a key, which is made if it isn't there. */
+export function valueOrNew(map, key, make) {
+    if (!map.has(key))
+        map.set(key, make());
+    return map.get(key);
+}
+
+/** Returns the keys whose clock went back, with their Falls, in the order of the first time. */
+export function fallen(map) {
+    return [...map].filter(([, falls]) => falls.count).sort(([, a], [, b]) => a.first - b.first);
 }
 
 export class Reads {
     constructor() {
         this.counts = new Map(); // of each clock
-        this.greatest = new Map(); // each clock's greatest value since it went back last
-        this.falls = new Map(); // of each clock: how often it went back, and where most
+        this.falls = new Map(); // of each clock
         this.last = null; // the greatest place of a read
         this.pause = { span: 0n, row: 0 };
     }
@@ -30,23 +74,7 @@ export class Reads {
         if (this.last === null || span > 0n)
             this.last = place;
         if (nanos !== null)
-            this.compare(clock, row, place, nanos);
-    }
-
-    /** Reads of several threads may have another order than their readings, so the place of the
-     * greatest value counts too. */
-    compare(clock, row, place, nanos) {
-        const former = this.greatest.get(clock);
-        const isBack = former && nanos < former.nanos && place >= former.place;
-        if (isBack)
-            this.fall(clock, row, former.nanos - nanos);
-        if (!former || isBack || nanos > former.nanos)
-            this.greatest.set(clock, { nanos, place });
-    }
-
-    fall(clock, row, span) {
-        const { count, most } = this.falls.get(clock) ?? { count: 0, most: { span: 0n } };
-        this.falls.set(clock, { count: count + 1, most: span > most.span ? { span, row } : most });
+            valueOrNew(this.falls, clock, () => new Falls()).add(row, place, nanos);
     }
 
     /** Returns lines in words, or none if there is no read. */
@@ -54,11 +82,9 @@ export class Reads {
         if (!this.counts.size)
             return [];
         const counts = [...this.counts].map(([clock, count]) => `${count} of ${clock}`);
-        const falls = [...this.falls].map(([clock, { count, most }]) => `${clock} went back ${
-            count === 1 ? 'once,' : `${count} times, at most`} by ${spanText(most.span)} at record ${
-            most.row}`);
         const pause = this.pause.row ? [`longest time without a read: ${
             spanText(this.pause.span)}, before record ${this.pause.row}`] : [];
-        return [`reads: ${counts.join(', ')}`, ...pause, ...falls];
+        return [`reads: ${counts.join(', ')}`, ...pause,
+            ...fallen(this.falls).map(([clock, falls]) => `${clock} went back ${falls.text()}`)];
     }
 }

@@ -3,6 +3,7 @@
 import { Curves } from './curves.js';
 import { Library, REFUSALS } from './library.js';
 import { Fault } from './records.js';
+import { Readers } from './readers.js';
 import { Script, timeText, utcText } from './report.js';
 
 let curves = null; // of the script that was run
@@ -21,15 +22,17 @@ function linesOf(bytes, ends) {
     });
 }
 
-/** Returns a script's report and curves, or its fault. */
-function answerScript(module, bytes) {
+/** Returns a script's report and curves, or its fault. The text of its readers may be null. */
+function answerScript(module, bytes, readers) {
     const library = new Library(module), drawn = new Curves(library);
     curves = null;
     try {
-        const script = new Script(library, bytes, drawn), report = script.run();
+        const script = new Script(library, bytes, drawn);
+        drawn.readers = readers === null ? null : new Readers(readers, script.rows);
+        const report = script.run();
         curves = drawn;
         return { report: report.map(lines => lines.join('  ')), lines: linesOf(bytes, script.ends),
-            drawn: drawn.finish(script.clocks), reads: drawn.allReads.lines() };
+            drawn: drawn.finish(script.clocks), reads: drawn.readLines() };
     } catch (fault) {
         if (!(fault instanceof Fault))
             throw fault;
@@ -49,7 +52,7 @@ function answerCursor(place) {
     return { cursor: { ...where, times: times.map(clockText) } };
 }
 
-onmessage = ({ data: { id, module, bytes, place } }) => {
-    const answer = module ? answerScript(module, bytes) : curves ? answerCursor(place) : {};
+onmessage = ({ data: { id, module, bytes, readers, place } }) => {
+    const answer = module ? answerScript(module, bytes, readers) : curves ? answerCursor(place) : {};
     postMessage({ id, ...answer });
 };

@@ -70,6 +70,7 @@ enum clock_file {
 	FILE_CONTROL,
 	FILE_ROWS, /* of the record */
 	FILE_LOG,
+	FILE_NET, /* a socket to tkrun, if there is a --link */
 	CLOCK_FILES
 };
 

@@ -107,9 +107,10 @@ SELDOM static enum tkc_code renew(struct machine *machine, struct kept *kept)
 	return look(machine, kept, &reading);
 }
 
-SELDOM static void record_read(struct machine *machine, uint32_t clock,
+static void record_read(struct machine *machine, uint32_t clock,
 			enum tkc_code code, const struct kept *kept,
-			uint64_t reading, const struct tkc_time *time)
+			uint64_t reading, const struct tkc_time *time,
+			enum read_call call)
 {
 	struct record_row row = { .kind = ROW_READ + clock,
 				  .code = code,
@@ -125,10 +126,10 @@ SELDOM static void record_read(struct machine *machine, uint32_t clock,
 		row.number = time->sec;
 		row.nsec = time->nsec;
 	}
-	rows_add(machine, &row);
+	rows_add_read(machine, &row, call);
 }
 
-/* Counts a read, and returns whether it is to be recorded. */
+/* Counts a read, and returns whether it is to be recorded or has a cost. */
 static inline bool count_read(struct machine *machine)
 {
 	struct control *control = machine->control;
@@ -140,7 +141,7 @@ static inline bool count_read(struct machine *machine)
 					  memory_order_relaxed);
 		machine_polled(machine, READS_IN_COUNT);
 	}
-	return control->rows.every && own_reads % control->rows.every == 0;
+	return control->rows.looks_every && own_reads % control->rows.looks_every == 0;
 }
 
 /* Returns the reading since which a coarse clock has its time. In a script it lets no
@@ -153,9 +154,39 @@ SELDOM static uint64_t reading_of(const struct kept *kept)
 	return words[SAVED_LAST];
 }
 
+/* Moves the counter by the cost of a read. While the thread doesn't wait, tkrun doesn't update the
+ * clocks, so the thread does: a coarse clock moves only by updates, and a narrow counter must not
+ * wrap twice. */
+SELDOM static void move_by_read(struct machine *machine, const struct kept *kept)
+{
+	struct shared_page *shared = machine->shared;
+	uint64_t reading;
+
+	atomic_fetch_add(&shared->cycles, shared->read_cost);
+	reading = machine_reading(shared);
+	if ((double)((reading - reading_of(kept)) & shared->mask) * shared->nanos_per_cycle >=
+		    (double)shared->update_nanos &&
+	    !tkc_snapshot_asleep(&kept->snapshot))
+		machine_command(machine, TKC_CMD_UPDATE, 0, 0);
+}
+
+/* Records a read if it is the thread's next one to be recorded, and lets it cost something. */
+SELDOM static void note_read(struct machine *machine, uint32_t clock, enum tkc_code code,
+			     const struct kept *kept, uint64_t reading,
+			     const struct tkc_time *time, enum read_call call)
+{
+	uint64_t every = machine->control->rows.every;
+
+	if (every && own_reads % every == 0)
+		record_read(machine, clock, code, kept, reading, time, call);
+	if (machine->shared->read_cost)
+		move_by_read(machine, kept);
+}
+
 /* Reads a coarse clock, which needs no reading of the counter. */
 static enum tkc_code read_coarse(struct machine *machine, struct kept *kept,
-				 uint32_t clock, struct tkc_time *out)
+				 uint32_t clock, struct tkc_time *out,
+				 enum read_call call)
 {
 	const struct coarse *coarse = coarse_of(kept, clock);
 	enum tkc_code code;
@@ -168,13 +199,14 @@ static enum tkc_code read_coarse(struct machine *machine, struct kept *kept,
 	}
 	*out = coarse->time;
 	if (count_read(machine))
-		record_read(machine, clock, coarse->code, kept,
-			    reading_of(kept), out);
+		note_read(machine, clock, coarse->code, kept, reading_of(kept), out,
+			  call);
 	return coarse->code;
 }
 
 static enum tkc_code read_fine(struct machine *machine, struct kept *kept,
-			       uint32_t clock, struct tkc_time *out)
+			       uint32_t clock, struct tkc_time *out,
+			       enum read_call call)
 {
 	uint64_t reading;
 	enum tkc_code code = look(machine, kept, &reading);
@@ -183,40 +215,41 @@ static enum tkc_code read_fine(struct machine *machine, struct kept *kept,
 		return code;
 	code = get_kept(kept, clock, reading, out);
 	if (count_read(machine))
-		record_read(machine, clock, code, kept, reading, out);
+		note_read(machine, clock, code, kept, reading, out, call);
 	return code;
 }
 
 static inline enum tkc_code read_kept(struct machine *machine,
 				      struct kept *kept, uint32_t clock,
-				      struct tkc_time *out)
+				      struct tkc_time *out, enum read_call call)
 {
 	if (clock == TKC_CLOCK_REALTIME_COARSE ||
 	    clock == TKC_CLOCK_MONOTONIC_COARSE)
-		return read_coarse(machine, kept, clock, out);
-	return read_fine(machine, kept, clock, out);
+		return read_coarse(machine, kept, clock, out, call);
+	return read_fine(machine, kept, clock, out, call);
 }
 
 /* Reads in a signal handler that interrupted a read of its thread. */
 SELDOM static enum tkc_code read_in_handler(struct machine *machine,
 					    uint32_t clock,
-					    struct tkc_time *out)
+					    struct tkc_time *out,
+					    enum read_call call)
 {
 	struct kept kept = { .sequence = NO_SEQUENCE };
 
-	return read_kept(machine, &kept, clock, out);
+	return read_kept(machine, &kept, clock, out, call);
 }
 
 enum tkc_code machine_read(struct machine *machine, uint32_t clock,
-			   struct tkc_time *out)
+			   struct tkc_time *out, enum read_call call)
 {
 	enum tkc_code code;
 
 	if (is_kept_busy)
-		return read_in_handler(machine, clock, out);
+		return read_in_handler(machine, clock, out, call);
 	is_kept_busy = 1;
 	atomic_signal_fence(memory_order_seq_cst);
-	code = read_kept(machine, &own_kept, clock, out);
+	code = read_kept(machine, &own_kept, clock, out, call);
 	atomic_signal_fence(memory_order_seq_cst);
 	is_kept_busy = 0;
 	return code;

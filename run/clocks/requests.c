@@ -49,7 +49,7 @@ struct timex request_selected(const struct timex *request)
 	return selected;
 }
 
-static struct asked_words words_of(const struct timex *request)
+struct asked_words request_words(const struct timex *request)
 {
 	struct timex in = request_selected(request);
 
@@ -67,7 +67,7 @@ void rows_add_request(struct machine *machine, const struct record_row *row,
 		      const struct timex *in, const struct timex *out,
 		      uint32_t state)
 {
-	struct asked_words asked = words_of(in);
+	struct asked_words asked = request_words(in);
 
 	if (!machine->control->rows.every)
 		return;

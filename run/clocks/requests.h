@@ -6,6 +6,8 @@
 #include <stdbool.h>
 #include <sys/timex.h>
 
+struct asked_words;
+
 /* Returns whether a request asks only for the reply. */
 bool request_only_reads(const struct timex *request);
 
@@ -14,5 +16,8 @@ bool request_is_faulty(const struct timex *request);
 
 /* Returns a request with 0 in each field that its modes don't select. */
 struct timex request_selected(const struct timex *request);
+
+/* Returns the words of a request in a record, without a reply. */
+struct asked_words request_words(const struct timex *request);
 
 #endif

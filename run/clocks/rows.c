@@ -6,6 +6,7 @@
 #include <fcntl.h>
 #include <string.h>
 #include <sys/mman.h>
+#include <sys/prctl.h>
 #include <sys/syscall.h>
 
 enum { ROOM_WAIT = NANOS }; /* the longest wait for tkrun to make room */
@@ -119,6 +120,50 @@ void rows_add(struct machine *machine, const struct record_row *row)
 
 	if (slot)
 		put_row(slot, row);
+}
+
+_Static_assert(sizeof(struct reader_row) == sizeof(struct record_row), "layout");
+
+static char own_program[NAME_BYTES];
+static _Thread_local const struct clock_reader *other_reader;
+
+void rows_name_program(void)
+{
+	host_call(SYS_prctl, PR_GET_NAME, (long)own_program, 0, 0, 0, 0);
+}
+
+void rows_read_for(const struct clock_reader *reader)
+{
+	other_reader = reader;
+}
+
+static struct clock_reader present_reader(void)
+{
+	struct clock_reader own;
+
+	if (other_reader)
+		return *other_reader;
+	own.process = (int32_t)host_call(SYS_getpid, 0, 0, 0, 0, 0, 0);
+	own.thread = (int32_t)host_call(SYS_gettid, 0, 0, 0, 0, 0, 0);
+	memcpy(own.program, own_program, sizeof(own.program));
+	return own;
+}
+
+void rows_add_read(struct machine *machine, const struct record_row *row,
+		   enum read_call call)
+{
+	bool has_reader = machine->control->rows.has_readers;
+	struct record_row *slot = take_rows(machine, 1 + has_reader);
+	struct reader_row *next;
+
+	if (!slot)
+		return;
+	if (has_reader) {
+		next = (struct reader_row *)slot + 1;
+		next->call = call;
+		next->reader = present_reader();
+	}
+	put_row(slot, row);
 }
 
 _Static_assert(sizeof(struct words_row) == sizeof(struct record_row), "layout");

@@ -37,6 +37,21 @@ struct words_row {
 
 enum { WORDS_ROWS = 6 };
 
+/* Who reads a clock. The program's name is the kernel's, with zeros after it. */
+enum { NAME_BYTES = 16 };
+struct clock_reader {
+	int32_t process, thread;
+	char program[NAME_BYTES];
+};
+
+/* What follows a read if the record has readers, in a row that isn't ready by itself. */
+struct reader_row {
+	_Atomic uint32_t is_ready; /* never */
+	uint32_t call; /* enum read_call */
+	struct clock_reader reader;
+	uint64_t unused;
+};
+
 /* The chunks that a process has mapped. A program has those of one record, and tkrun those of
  * each node's. */
 struct chunks {
@@ -55,6 +70,22 @@ struct asked_words {
 
 /* Adds a row to the record. If it can't be written, it is counted as lost. */
 void rows_add(struct machine *machine, const struct record_row *row);
+
+/* Adds a read, and who made it if the record has readers. */
+void rows_add_read(struct machine *machine, const struct record_row *row,
+		   enum read_call call);
+
+/* Notes the name of this program, for its reads. */
+void rows_name_program(void);
+
+/* Lets the reads of this thread of tkrun be those of a reader, or its own if it is NULL. */
+void rows_read_for(const struct clock_reader *reader);
+
+/* Returns the row after a read. */
+static inline const struct reader_row *rows_reader(const struct record_row *row)
+{
+	return (const struct reader_row *)row + 1;
+}
 
 /* Says that the clocks are steered. */
 void rows_steer(struct rows *rows);

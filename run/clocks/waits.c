@@ -39,7 +39,7 @@ bool machine_after(struct machine *machine, int clock,
 	struct tkc_time now;
 
 	if (after.tv_sec < 0 || is_bad(&after) ||
-	    machine_read(machine, (uint32_t)clock, &now))
+	    machine_read(machine, (uint32_t)clock, &now, BY_WAIT))
 		return false;
 	after.tv_nsec += now.nsec;
 	/* no clock runs as long as that */
@@ -57,7 +57,7 @@ struct timespec machine_until(struct machine *machine, int clock,
 	struct timespec left = { 0 };
 	struct tkc_time now;
 
-	if (machine_read(machine, (uint32_t)clock, &now))
+	if (machine_read(machine, (uint32_t)clock, &now, BY_WAIT))
 		return left;
 	left.tv_sec = time->tv_sec - now.sec;
 	left.tv_nsec = time->tv_nsec - (long)now.nsec;

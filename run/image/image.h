@@ -16,7 +16,7 @@ union image_head {
 	struct {
 		/* the kernel's own vDSO's, or NULL if it can't read clocks */
 		host_clock *gettime;
-		uint64_t makes_calls; /* a record needs each read as a call */
+		uint64_t makes_calls; /* a record, or the cost of a read, needs calls */
 		/* what the kernel's own vDSO offers apart from clocks */
 		uint64_t getcpu, getrandom, sgx_enter_enclave;
 	};

@@ -3,6 +3,7 @@
 #define _GNU_SOURCE
 #include "timers.h"
 #include "wake.h"
+#include "clocks/rows.h"
 #include "image/image.h"
 
 #include <dlfcn.h>
@@ -82,6 +83,8 @@ __attribute__((noinline, cold)) static void find_machine(void)
 	}
 	find_host_clock(vdso);
 	count_program(vdso);
+	if (library.machine.control && library.machine.control->rows.has_readers)
+		rows_name_program();
 	waiters_forget(&library.machine, getpid()); /* the thread that has just begun */
 	timers_hook_forks();
 	wake_start();

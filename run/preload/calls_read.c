@@ -8,7 +8,8 @@
 #include <sys/time.h>
 #include <sys/timeb.h>
 
-EXPORT int clock_gettime(clockid_t clock, struct timespec *out)
+static inline int read_clock(clockid_t clock, struct timespec *out,
+			     enum read_call call)
 {
 	struct machine *m = machine();
 	int number = m ? machine_clock(clock) : -1;
@@ -17,10 +18,15 @@ EXPORT int clock_gettime(clockid_t clock, struct timespec *out)
 	if (number < 0)
 		return m ? host_gettime_by_call(clock, out)
 			 : REAL(clock_gettime)(clock, out);
-	if (machine_read(m, (uint32_t)number, &now))
+	if (machine_read(m, (uint32_t)number, &now, call))
 		return refuse(EOVERFLOW);
 	*out = (struct timespec){ now.sec, now.nsec };
 	return 0;
+}
+
+EXPORT int clock_gettime(clockid_t clock, struct timespec *out)
+{
+	return read_clock(clock, out, BY_CLOCK_GETTIME);
 }
 
 EXPORT int clock_getres(clockid_t clock, struct timespec *out)
@@ -46,7 +52,7 @@ EXPORT int gettimeofday(struct timeval *restrict out, void *restrict zone)
 		machine_zone(m, zone);
 	else if (zone)
 		*(struct timezone *)zone = (struct timezone){ 0 };
-	if (clock_gettime(CLOCK_REALTIME, &now))
+	if (read_clock(CLOCK_REALTIME, &now, BY_GETTIMEOFDAY))
 		return -1;
 	if (out)
 		*out = (struct timeval){ now.tv_sec, now.tv_nsec / 1000 };
@@ -57,7 +63,7 @@ EXPORT time_t time(time_t *out)
 {
 	struct timespec now = { -1, 0 };
 
-	clock_gettime(CLOCK_REALTIME_COARSE, &now);
+	read_clock(CLOCK_REALTIME_COARSE, &now, BY_TIME);
 	if (out)
 		*out = now.tv_sec;
 	return now.tv_sec;
@@ -65,7 +71,7 @@ EXPORT time_t time(time_t *out)
 
 EXPORT int timespec_get(struct timespec *out, int base)
 {
-	if (base != TIME_UTC || clock_gettime(CLOCK_REALTIME, out))
+	if (base != TIME_UTC || read_clock(CLOCK_REALTIME, out, BY_TIMESPEC_GET))
 		return 0;
 	return base;
 }
@@ -74,7 +80,7 @@ EXPORT int ftime(struct timeb *out)
 {
 	struct timespec now;
 
-	if (clock_gettime(CLOCK_REALTIME, &now))
+	if (read_clock(CLOCK_REALTIME, &now, BY_FTIME))
 		return -1;
 	*out = (struct timeb){ .time = now.tv_sec,
 			       .millitm = (unsigned short)(now.tv_nsec /

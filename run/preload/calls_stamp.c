@@ -9,9 +9,22 @@
 
 #include <netinet/in.h>
 #include <netinet/tcp.h>
+#include <linux/net_tstamp.h>
 #include <string.h>
 #include <sys/socket.h>
 #include <sys/time.h>
+
+/* Returns whether SO_TIMESTAMPING is to stamp what arrives, by the kernel's clock, and nothing
+ * else. */
+static bool asks_for_arrivals(const void *value, socklen_t length)
+{
+	uint32_t flags;
+
+	if (!value || length < sizeof(flags))
+		return false;
+	memcpy(&flags, value, sizeof(flags));
+	return !(flags & ~(SOF_TIMESTAMPING_RX_SOFTWARE | SOF_TIMESTAMPING_SOFTWARE));
+}
 
 EXPORT int setsockopt(int file, int level, int name, const void *value,
 		      socklen_t length)
@@ -28,9 +41,12 @@ EXPORT int setsockopt(int file, int level, int name, const void *value,
 		if (m->shared->has_stamps)
 			break;
 		return refuse(ENOPROTOOPT);
+	case SO_TIMESTAMPING_OLD:
+		if (m->shared->has_stamps && asks_for_arrivals(value, length))
+			break;
+		return refuse(ENOPROTOOPT);
 	case SO_TIMESTAMP_NEW:
 	case SO_TIMESTAMPNS_NEW:
-	case SO_TIMESTAMPING_OLD:
 	case SO_TIMESTAMPING_NEW:
 		return refuse(ENOPROTOOPT);
 	case SO_RCVTIMEO_OLD:
@@ -40,18 +56,28 @@ EXPORT int setsockopt(int file, int level, int name, const void *value,
 	return REAL(setsockopt)(file, level, name, value, length);
 }
 
-/* Returns the clocks' REALTIME as long ago as a time of the host's was. */
+/* Returns how long ago it was, on the clocks, that the host's REALTIME had a value, in ns. A counter
+ * of sleeps stands still while the host's goes on. */
+static int64_t age_of(struct machine *m, int64_t host)
+{
+	uint64_t age;
+
+	if (m->shared->kind != COUNTER_SLEEPS)
+		return (int64_t)((double)((int64_t)host_nanos(CLOCK_REALTIME) - host) *
+				 m->shared->speed);
+	return m->control && moves_find(m, (uint64_t)host, &age) ? (int64_t)age : 0;
+}
+
+/* Returns the clocks' REALTIME when the host's had a value. */
 static struct timespec convert(struct machine *m, const struct timespec *stamp)
 {
-	int64_t age = (int64_t)host_nanos(CLOCK_REALTIME) -
-		      (stamp->tv_sec * NANOS + stamp->tv_nsec);
+	int64_t age = age_of(m, stamp->tv_sec * NANOS + stamp->tv_nsec);
 	struct tkc_time now;
 	int64_t nanos;
 
-	if (machine_read(m, TKC_CLOCK_REALTIME, &now))
+	if (machine_read(m, TKC_CLOCK_REALTIME, &now, BY_STAMP))
 		return *stamp;
-	nanos = now.sec * NANOS + now.nsec -
-		(int64_t)((double)age * m->shared->speed);
+	nanos = now.sec * NANOS + now.nsec - age;
 	return (struct timespec){ nanos / NANOS, nanos % NANOS };
 }
 
@@ -62,7 +88,7 @@ static void convert_part(struct machine *m, struct cmsghdr *part)
 
 	if (part->cmsg_level != SOL_SOCKET)
 		return;
-	if (part->cmsg_type == SO_TIMESTAMPNS_OLD) {
+	if (part->cmsg_type == SO_TIMESTAMPNS_OLD || part->cmsg_type == SO_TIMESTAMPING_OLD) {
 		memcpy(&stamp, CMSG_DATA(part), sizeof(stamp));
 		stamp = convert(m, &stamp);
 		memcpy(CMSG_DATA(part), &stamp, sizeof(stamp));

@@ -47,7 +47,7 @@ static char *map_image(const struct machine *m)
 
 	if (at < 0)
 		return NULL;
-	head->makes_calls = m->control && m->control->rows.every;
+	head->makes_calls = m->control && m->control->rows.looks_every;
 	memcpy(start + HEAD_BYTES, image_start, size);
 	if (map_page((char *)at) && protect(start, code, PROT_READ | PROT_EXEC))
 		return start + HEAD_BYTES;

@@ -6,6 +6,7 @@
  */
 #define _GNU_SOURCE
 #include "recording.h"
+#include "texts.h"
 #include "script/script.h"
 #include "tkrun/signals.h"
 
@@ -16,26 +17,6 @@
 #include <sys/wait.h>
 
 enum { SHOWN_MOST = 5, LINE_MOST = 256 };
-
-static const char *refusal_word(uint32_t code)
-{
-	switch (code) {
-	case TKC_FULL:
-		return "full";
-	case TKC_ASLEEP:
-		return "asleep";
-	case TKC_AWAKE:
-		return "awake";
-	case TKC_INVALID:
-		return "invalid";
-	case TKC_BEHIND:
-		return "behind";
-	case TKC_RANGE:
-		return "range";
-	default:
-		return "unknown";
-	}
-}
 
 /* The report of a part, while its lines are compared. */
 struct report {
@@ -107,7 +88,7 @@ static void expect(const struct report *report, char *text, size_t size)
 	const struct record_row *row = row_of(report);
 
 	if (row && row->code)
-		snprintf(text, size, "no,%s\n", refusal_word(row->code));
+		snprintf(text, size, "no,%s\n", text_refusal(row->code));
 	else if (row && is_request(row))
 		expect_reply(row, text, size);
 	else if (is_read(row))

@@ -4,6 +4,7 @@
 #include "parts.h"
 
 #include "replayed.h"
+#include "texts.h"
 #include "clocks/saved_words.h"
 #include "script/script.h"
 
@@ -24,20 +25,6 @@ void recording_part(const struct recording *recording, unsigned int part,
 		snprintf(name, size, "%s.%u", recording->path, part);
 }
 
-static const struct {
-	const char *word;
-	int numbers;
-} COMMANDS[] = {
-	[TKC_CMD_UPDATE] = { "update", 0 },
-	[TKC_CMD_SET_TIME] = { "set", 2 },
-	[TKC_CMD_STEP] = { "step", 2 },
-	[TKC_CMD_FREQ] = { "freq", 1 },
-	[TKC_CMD_TICK] = { "tick", 1 },
-	[TKC_CMD_TAI_OFFSET] = { "tai", 1 },
-	[TKC_CMD_SUSPEND] = { "suspend", 0 },
-	[TKC_CMD_RESUME] = { "resume", 2 },
-};
-
 /* The script that is being written, and the clocks after its records. */
 struct script_file {
 	FILE *file;
@@ -46,52 +33,19 @@ struct script_file {
 };
 
 /* A read that gave no time states no value: tkcore refuses it, too. */
-static void put_read(struct script_file *script, const struct record_row *row)
+static int put_read(FILE *file, const struct record_row *row)
 {
-	const char *word = script_clock_word(row->kind - ROW_READ);
-	uint64_t value = (uint64_t)row->number * NANOS + row->nsec;
+	struct tkc_time value = { .sec = row->number, .nsec = row->nsec };
 
-	if (row->code)
-		script->bytes +=
-			(size_t)fprintf(script->file, "get,%" PRIu64 ",%s\n",
-					row->reading, word);
-	else
-		script->bytes += (size_t)fprintf(
-			script->file, "get,%" PRIu64 ",%s,%" PRIu64 "\n",
-			row->reading, word, value);
+	return text_read(file, row->reading, row->kind - ROW_READ, row->code ? NULL : &value);
 }
 
-static void put_request(struct script_file *script,
-			const struct record_row *row)
+static int put_request(FILE *file, const struct record_row *row)
 {
 	struct asked_words asked;
 
 	rows_asked(row, &asked);
-	script->bytes += (size_t)fprintf(
-		script->file,
-		"adjtimex,%" PRIu64 ",%" PRIu32 ",%" PRId64 ",%" PRId64
-		",%" PRId64 ",%" PRId64 ",%" PRIu32 ",%" PRId64 ",%" PRId64
-		",%" PRId64 ",%" PRId64 "\n",
-		row->reading, (uint32_t)asked.modes, asked.offset, asked.freq,
-		asked.maxerror, asked.esterror, (uint32_t)asked.status,
-		asked.constant, asked.tick, asked.sec, asked.sub);
-}
-
-static void put_command(struct script_file *script,
-			const struct record_row *row)
-{
-	int numbers = COMMANDS[row->kind].numbers;
-
-	script->bytes += (size_t)fprintf(script->file, "%s,%" PRIu64,
-					 COMMANDS[row->kind].word,
-					 row->reading);
-	if (numbers > 0)
-		script->bytes += (size_t)fprintf(script->file, ",%" PRId64,
-						 row->number);
-	if (numbers > 1)
-		script->bytes += (size_t)fprintf(script->file, ",%" PRIu32,
-						 row->nsec);
-	script->bytes += (size_t)fprintf(script->file, "\n");
+	return text_request(file, row->reading, &asked);
 }
 
 static void close_script(struct script_file *script, int *error)
@@ -185,16 +139,18 @@ static struct part *begin_part(struct recording *recording,
 static void put_row(struct recording *recording, struct script_file *script,
 		    const struct record_row *row)
 {
-	if (is_request(row)) {
-		put_request(script, row);
-		recording->commands++;
-	} else if (is_command(row)) {
-		put_command(script, row);
-		recording->commands++;
-	} else {
-		put_read(script, row);
-		recording->reads++;
-	}
+	FILE *file = script->file;
+	int bytes;
+
+	if (is_request(row))
+		bytes = put_request(file, row);
+	else if (is_command(row))
+		bytes = text_command(file, row->reading, row->kind, row->number, row->nsec);
+	else
+		bytes = put_read(file, row);
+	script->bytes += (size_t)bytes + (size_t)fprintf(file, "\n");
+	recording->commands += is_request(row) || is_command(row);
+	recording->reads += !is_request(row) && !is_command(row);
 	replayed_follow(&script->clocks, row);
 }
 

@@ -4,6 +4,7 @@
 #include "recording.h"
 
 #include "parts.h"
+#include "readers.h"
 
 #include <errno.h>
 #include <fcntl.h>
@@ -71,6 +72,9 @@ void recording_start(struct recording *recording, struct control *control,
 		fail(STATUS_WRONG, "--record: cannot write '%s': %s",
 		     recording->path, strerror(errno));
 	fclose(file);
+	recording->has_readers = options->has_readers;
+	if (recording->has_readers)
+		readers_start(recording);
 	recording->rows_file =
 		open(recording->rows_path,
 		     O_RDWR | O_CREAT | O_TRUNC | O_CLOEXEC, 0600);
@@ -80,6 +84,7 @@ void recording_start(struct recording *recording, struct control *control,
 	strcpy(rows->path, recording->rows_path);
 	rows->every = options->every;
 	rows->reads_most = options->reads_most;
+	rows->has_readers = options->has_readers;
 	recording->control = control;
 	make_room(recording, rows);
 	if (pthread_create(&recording->thread, NULL, keep_room, recording))
@@ -156,12 +161,20 @@ static bool is_whole(const struct record_row *row)
 		 row->kind <= ROW_READ + TKC_CLOCK_TAI));
 }
 
+/* Returns the number of rows that follow a row and belong to it. */
+static uint64_t rows_after(const struct record_row *row, bool has_readers)
+{
+	if (is_request(row))
+		return WORDS_ROWS;
+	return has_readers && row->kind >= ROW_READ;
+}
+
 /*
  * Lists the rows that are to be replayed. A command that was never published,
  * because its writer died, isn't one: a later command has its front, or none.
  */
 static bool list_rows(struct list *list, const struct record_row *rows,
-		      uint64_t count, uint64_t front)
+		      uint64_t count, uint64_t front, bool has_readers)
 {
 	uint64_t kept = 0;
 
@@ -171,7 +184,7 @@ static bool list_rows(struct list *list, const struct record_row *rows,
 		return false;
 	for (uint64_t i = 0; i < count; i++) {
 		if (is_whole(&rows[i]) && rows[i].front <= front &&
-		    (!is_request(&rows[i]) || i + WORDS_ROWS < count))
+		    i + rows_after(&rows[i], has_readers) < count)
 			list->rows[list->count++] = &rows[i];
 	}
 	qsort(list->rows, list->count, sizeof(*list->rows), compare_rows);
@@ -229,7 +242,8 @@ bool recording_write(struct recording *recording, struct machine *machine,
 		memory = mmap(NULL, count * sizeof(*memory), PROT_READ,
 			      MAP_SHARED, recording->rows_file, 0);
 	if (memory == MAP_FAILED ||
-	    !list_rows(list, memory, count, front_of(machine)))
+	    !list_rows(list, memory, count, front_of(machine),
+		       recording->has_readers))
 		error = ENOMEM;
 	if (!error) {
 		if (steered_mask)
@@ -238,6 +252,8 @@ bool recording_write(struct recording *recording, struct machine *machine,
 		recording->is_steered = steered_mask;
 		error = parts_write(recording, plan);
 	}
+	if (!error && recording->has_readers)
+		error = readers_write(recording);
 	if (error)
 		fprintf(stderr, "tkrun: cannot write the record '%s': %s\n",
 			recording->path, strerror(error));

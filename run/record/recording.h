@@ -32,6 +32,7 @@ struct recording {
 	uint64_t gap;	  /* the first command that is missing, or 0 */
 	uint64_t reads, commands;
 	bool is_steered; /* the script opens with a discipline */
+	bool has_readers; /* a file says who made each read: readers.h */
 	struct list list;
 	struct part *parts;
 	unsigned int part_count;

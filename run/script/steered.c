@@ -6,6 +6,7 @@
 #include "clocks/rows.h"
 #include "clocks/saved_words.h"
 
+#include <stdio.h>
 #include <stdlib.h>
 
 /* The fields of records, with their word. */
@@ -21,6 +22,23 @@ static const char NO_OPENING[] = "not a valid opening";
 static const char NO_FIELDS[] = "wrong number of fields";
 static const char NO_NUMBER[] = "not a number in range";
 static const char NO_MEMORY[] = "out of memory";
+
+char *steered_text(const char *path, size_t *length)
+{
+	char *text = malloc(SCRIPT_LIMIT + 1);
+	FILE *file = text ? fopen(path, "re") : NULL;
+	bool is_read = false;
+
+	if (file) {
+		*length = fread(text, 1, SCRIPT_LIMIT + 1, file);
+		is_read = !ferror(file);
+		fclose(file);
+	}
+	if (is_read)
+		return text;
+	free(text);
+	return NULL;
+}
 
 /* Makes room for one more element of a list, whose room is a power of two. */
 static bool grow(void **list, size_t count, size_t size)
@@ -131,7 +149,17 @@ static const char *add_request(struct steered_script *script,
 	return wrong;
 }
 
-/* Adds the order of a record, unless it is a read. Returns a fault, or NULL. */
+/* Returns the order of a record that isn't a request. */
+static struct order order_of(const struct row *row)
+{
+	if (row->is_read)
+		return (struct order){ row->reading, ROW_READ + row->clock,
+				       (uint32_t)(row->value % NANOS),
+				       (int64_t)(row->value / NANOS) };
+	return (struct order){ row->reading, row->command, row->nsec, row->number };
+}
+
+/* Adds the order of a record, unless it is a read that is left out. Returns a fault, or NULL. */
 static const char *add_record(struct steered_script *script,
 			      const struct record *record)
 {
@@ -141,11 +169,10 @@ static const char *add_record(struct steered_script *script,
 				    ? add_request(script, record, &order)
 				    : script_row(record, &row);
 
-	if (wrong || row.is_read)
+	if (wrong || (row.is_read && !script->keeps_reads))
 		return wrong;
 	if (!order.command)
-		order = (struct order){ row.reading, row.command, row.nsec,
-					row.number };
+		order = order_of(&row);
 	if (!grow((void **)&script->orders, script->count,
 		  sizeof(*script->orders)))
 		return NO_MEMORY;
@@ -160,7 +187,6 @@ bool steered_parse(struct steered_script *script, char *text, size_t length,
 	struct record record = { 0 };
 	const char *wrong;
 
-	*script = (struct steered_script){ 0 };
 	if (length > SCRIPT_LIMIT)
 		wrong = "larger than 16777216 bytes";
 	else if (!read_record(&reader, &record))

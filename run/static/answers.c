@@ -1,11 +1,11 @@
 /* SPDX-License-Identifier: MIT OR Apache-2.0 */
 /* answers.c - answers the system calls of programs without the library. */
 #define _GNU_SOURCE
+#include "asker.h"
 #include "asker_memory.h"
 #include "static.h"
 #include "clocks/log.h"
 #include "processes/coverage.h"
-#include "processes/status.h"
 
 #include <errno.h>
 #include <sys/ioctl.h>
@@ -37,7 +37,7 @@ static int read_clock(struct machine *m, const struct seccomp_notif *ask)
 
 	if (number < 0)
 		return CALL_HOST;
-	if (machine_read(m, (uint32_t)number, &now))
+	if (machine_read(m, (uint32_t)number, &now, BY_CLOCK_GETTIME))
 		return EOVERFLOW;
 	time = (struct timespec){ now.sec, now.nsec };
 	return answer_put(ask, ask->data.args[1], &time, sizeof(time));
@@ -50,7 +50,7 @@ static int read_micros(struct machine *m, const struct seccomp_notif *ask)
 	struct tkc_time now;
 	int error = 0;
 
-	if (machine_read(m, TKC_CLOCK_REALTIME, &now))
+	if (machine_read(m, TKC_CLOCK_REALTIME, &now, BY_GETTIMEOFDAY))
 		return EOVERFLOW;
 	time = (struct timeval){ now.sec, now.nsec / 1000 };
 	machine_zone(m, &zone);
@@ -66,7 +66,7 @@ static int read_second(struct machine *m, const struct seccomp_notif *ask,
 {
 	struct tkc_time now;
 
-	if (machine_read(m, TKC_CLOCK_REALTIME_COARSE, &now))
+	if (machine_read(m, TKC_CLOCK_REALTIME_COARSE, &now, BY_TIME))
 		return EOVERFLOW;
 	*value = now.sec;
 	if (!ask->data.args[0])
@@ -79,11 +79,8 @@ static struct logged_call asked_call(struct machine *m, const struct seccomp_not
 				     const char *name, int result)
 {
 	struct log *log = &m->control->log;
-	char status[STATUS_BYTES];
-	int process = (int)ask->pid;
+	int process = *log->path ? asker_process(ask) : 0;
 
-	if (*log->path && status_read(process, status))
-		process = (int)status_number(status, "Tgid", 10);
 	return (struct logged_call){ log, process, name, result };
 }
 
@@ -197,6 +194,7 @@ static int make_call(size_t node, const struct seccomp_notif *ask,
 	struct machine *m = node_machine(node);
 
 	machine_turn_to(m);
+	asker_reads(m, ask);
 	if (is_command(ask->data.nr) && !files_may_command((int)ask->pid))
 		return EPERM;
 	switch (ask->data.nr) {

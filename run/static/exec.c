@@ -175,6 +175,7 @@ void exec_stopped(pid_t thread, int status)
 
 	if (event == PTRACE_EVENT_EXEC) {
 		forget_waits(thread);
+		unlinked_check(thread);
 		reason = replace_vdso(thread);
 	}
 	if (reason)

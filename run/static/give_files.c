@@ -13,6 +13,12 @@
 #include <unistd.h>
 
 static int (*all_files)[CLOCK_FILES]; /* by the node */
+static int net_file = -1;
+
+void files_offer_net(int file)
+{
+	net_file = file;
+}
 
 bool files_open(size_t node, const char *folder)
 {
@@ -25,7 +31,7 @@ bool files_open(size_t node, const char *folder)
 	char page[PATH_MAX], commands[PATH_MAX];
 	const char *paths[CLOCK_FILES] = { page, page, commands,
 					   control->rows.path,
-					   control->log.path };
+					   control->log.path, "" };
 	int *files;
 
 	if (!all_files)
@@ -40,6 +46,7 @@ bool files_open(size_t node, const char *folder)
 		if (*paths[i] && files[i] < 0)
 			return false;
 	}
+	files[FILE_NET] = net_file;
 	return true;
 }
 

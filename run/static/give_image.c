@@ -71,7 +71,7 @@ void image_offer(const struct machine *machine)
 	if (calls_host)
 		vdso.gettime = 0;
 	filters = filter_count((int)getpid()) + 1;
-	head.makes_calls = machine->control->rows.every > 0;
+	head.makes_calls = machine->control->rows.looks_every > 0;
 	is_offered = vdso.call && (vdso.gettime || calls_host ||
 				   machine->shared->kind != COUNTER_RAW);
 }

@@ -4,6 +4,7 @@
  * its time comes.
  */
 #define _GNU_SOURCE
+#include "asker.h"
 #include "static.h"
 
 #include "processes/status.h"
@@ -164,6 +165,7 @@ static int store_rest(const struct sleep *sleep)
 	if (!sleep->rest)
 		return 0;
 	machine_turn_to(sleep->machine);
+	asker_reads(sleep->machine, &sleep->ask);
 	rest = machine_until(sleep->machine, sleep->clock, &sleep->end);
 	return answer_put(&sleep->ask, sleep->rest, &rest, sizeof(rest));
 }

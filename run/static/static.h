@@ -93,6 +93,9 @@ bool answers_start(int listener);
 /* Opens the files of a node's clocks. Returns false if it can't. */
 bool files_open(size_t node, const char *folder);
 
+/* Sets the socket that FILE_NET is, for all nodes. */
+void files_offer_net(int file);
+
 /* Returns whether a thread is of the user who may command the clocks. */
 bool files_may_command(int thread);
 
@@ -109,6 +112,10 @@ void execs_wait_no_more(void);
 
 /* Lets the sleeps be checked, since the counter has moved. */
 void sleepers_wake(void);
+
+/* Names a program that has just been executed, and is traced, if it doesn't load the library and its
+ * node has links. */
+void unlinked_check(pid_t process);
 
 /* Lets a thread execute a program, and follows it until it has. */
 void exec_follow(int listener, const struct seccomp_notif *ask);

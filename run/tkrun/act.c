@@ -1,21 +1,19 @@
 /* SPDX-License-Identifier: MIT OR Apache-2.0 */
 /* act.c - lets events happen to the clocks of nodes. */
 #define _GNU_SOURCE
-#include "tkrun.h"
+#include "net.h"
 
 #include <inttypes.h>
 #include <stdio.h>
 
 uint64_t true_nanos(const struct run *run)
 {
-	const struct node *first = run->nodes;
-	const struct shared_page *shared = first->machine.shared;
-	uint64_t cycles;
+	const struct shared_page *shared = run->nodes->machine.shared;
+	uint64_t common = shared->kind == COUNTER_SLEEPS
+				  ? run->elapsed
+				  : machine_host(shared->kind) - shared->base;
 
-	if (shared->kind == COUNTER_SLEEPS)
-		return run->elapsed;
-	cycles = pace_cycles(&first->pace, machine_host(shared->kind) - shared->base);
-	return (uint64_t)((long double)cycles * NANOS / first->plan.hz);
+	return pace_cycles(&run->truth, common);
 }
 
 /* Asks for a leap second at the end of the day, as a daemon does. */
@@ -36,15 +34,32 @@ static enum tkc_code insert_leap(struct machine *machine)
 	return code;
 }
 
-/* Changes how a counter of sleeps moves from now on. */
-static void set_error(const struct run *run, struct node *node, double ppm)
+/* Lets a counter of sleeps move by its present error from now on. */
+static void change_pace(const struct run *run, struct node *node)
 {
-	double factor = 1 + ppm * 1e-6;
+	double factor = 1 + (node->error_ppm + node->wander.ppm) * 1e-6;
+	uint64_t cycles = pace_cycles(&node->pace, run->elapsed);
 
 	node->pace = pace_of((long double)node->plan.hz * factor / NANOS);
 	node->pace.since = run->elapsed;
-	node->pace.cycles = atomic_load(&node->machine.shared->cycles);
+	node->pace.cycles = cycles;
 	note_pace(node);
+}
+
+uint64_t before_wander(const struct run *run, uint64_t common)
+{
+	for (size_t i = 1; i < run->count && common != NEVER; i++)
+		if (run->nodes[i].wander.next < common)
+			common = run->nodes[i].wander.next;
+	return common;
+}
+
+/* A counter may have passed more than one step, if it moves by reads. */
+void wander_all_due(struct run *run)
+{
+	for (size_t i = 1; i < run->count; i++)
+		while (wander_make_step(&run->nodes[i].wander, run->elapsed))
+			change_pace(run, &run->nodes[i]);
 }
 
 /* The clocks stand still until another event. */
@@ -69,7 +84,8 @@ enum tkc_code act(struct run *run, const struct event *event)
 	case ACTION_STEP:
 		return machine_command(machine, TKC_CMD_STEP, event->sec, event->nsec);
 	case ACTION_FREQ:
-		set_error(run, node, event->ppm);
+		node->error_ppm = event->ppm;
+		change_pace(run, node);
 		return TKC_OK;
 	case ACTION_SUSPEND:
 		return suspend(machine, event);
@@ -77,6 +93,9 @@ enum tkc_code act(struct run *run, const struct event *event)
 		return machine_command(machine, TKC_CMD_RESUME, event->sec, event->nsec);
 	case ACTION_LEAP:
 		return insert_leap(machine);
+	case ACTION_PARTITION:
+	case ACTION_HEAL:
+		links_cut(event->node, event->other, event->action == ACTION_PARTITION);
 	}
 	return TKC_OK;
 }

@@ -1,5 +1,5 @@
 /* SPDX-License-Identifier: MIT OR Apache-2.0 */
-/* ctl.c - tkrun ctl NODE COMMAND [VALUE]: lets an event happen now in a run. */
+/* ctl.c - tkrun ctl NODE COMMAND [VALUE], or partition|heal NODE NODE: lets an event happen now. */
 #define _GNU_SOURCE
 #include "tkrun.h"
 
@@ -88,7 +88,8 @@ void control_node(int count, char **words)
 		return;
 	length = join_words(count - 2, words + 2, text);
 	if (count < 4 || !length)
-		fail(STATUS_WRONG, "tkrun ctl NODE step|freq|suspend|leap [VALUE]");
+		fail(STATUS_WRONG, "tkrun ctl NODE step|freq|suspend|leap [VALUE], or "
+				   "tkrun ctl partition|heal NODE NODE");
 	file = connect_to_run();
 	if (file < 0)
 		fail(STATUS_WRONG, "ctl: there is no run with --node");

@@ -40,16 +40,6 @@ const char *parse_seconds(const char *text, int64_t *sec, uint32_t *nsec)
 	return rest;
 }
 
-/* Returns the number of a node, or 0 if there is none with the name. */
-static size_t find_node(const struct options *options, const char *name)
-{
-	size_t i = options->node_count;
-
-	while (i && strcmp(options->nodes[i - 1].name, name))
-		i--;
-	return i;
-}
-
 static bool find_action(const char *word, enum action *action)
 {
 	for (size_t i = 0; i < sizeof(ACTIONS) / sizeof(*ACTIONS); i++) {
@@ -84,11 +74,34 @@ static bool parse_value(const char *text, struct event *event)
 	return rest && event->sec >= 0 && (!*rest || !strcmp(rest, "s"));
 }
 
+/* Parses "NODE NODE". */
+static bool parse_pair(const struct options *options, char *text, struct event *event,
+		       char *sentence)
+{
+	const char *one = text ? strsep(&text, " ") : "", *other = text ? text : "";
+
+	event->node = find_node(options, one);
+	event->other = find_node(options, other);
+	if (!event->node || !event->other)
+		snprintf(sentence, SENTENCE_MOST, "there is no node '%.64s'",
+			 event->node ? other : one);
+	else if (!find_link(options, event->node, event->other))
+		snprintf(sentence, SENTENCE_MOST, "there is no link between '%s' and '%s'", one,
+			 other);
+	return !*sentence;
+}
+
 bool event_parse(const struct options *options, char *text, struct event *event, char *sentence)
 {
-	const char *name = strsep(&text, " "), *word = text ? strsep(&text, " ") : "";
+	const char *name = strsep(&text, " "), *word;
+	bool is_partition = !strcmp(name, "partition");
 
 	*sentence = 0;
+	if (is_partition || !strcmp(name, "heal")) {
+		event->action = is_partition ? ACTION_PARTITION : ACTION_HEAL;
+		return parse_pair(options, text, event, sentence);
+	}
+	word = text ? strsep(&text, " ") : "";
 	event->node = find_node(options, name);
 	if (!event->node)
 		snprintf(sentence, SENTENCE_MOST, "there is no node '%.64s'", name);

@@ -5,13 +5,22 @@
 
 #include "options.h"
 
-enum action { ACTION_STEP, ACTION_FREQ, ACTION_SUSPEND, ACTION_RESUME, ACTION_LEAP };
+enum action {
+	ACTION_STEP,
+	ACTION_FREQ,
+	ACTION_SUSPEND,
+	ACTION_RESUME,
+	ACTION_LEAP,
+	ACTION_PARTITION,
+	ACTION_HEAL
+};
 
 /* An action on a node. `sec` and `nsec` are a step, which is sec + nsec / 10^9 s, or the length of
  * a suspension. */
 struct event {
 	uint64_t nanos; /* of the true time of the run */
 	size_t node;	/* its number */
+	size_t other;	/* of a partition and its end: that of the other node */
 	enum action action;
 	int64_t sec;
 	uint32_t nsec;
@@ -20,8 +29,8 @@ struct event {
 
 enum { SENTENCE_MOST = 256 };
 
-/* Parses "NODE step|freq|suspend|leap [VALUE]", and changes the text. Returns false with a sentence
- * if it is wrong. */
+/* Parses "NODE step|freq|suspend|leap [VALUE]" or "partition|heal NODE NODE", and changes the text.
+ * Returns false with a sentence if it is wrong. */
 bool event_parse(const struct options *options, char *text, struct event *event, char *sentence);
 
 /* Parses "SEC[.NSEC]" with an optional sign, up to 9223372035 s. Returns what follows, or NULL. */

@@ -8,8 +8,10 @@
 #include <string.h>
 #include <unistd.h>
 
-/* The library, which tools/build_run puts next to the folder of tkrun. */
-static void find_library(char *path, size_t size)
+static const char LIBRARY[] = "libtkrun.so", NET_LIBRARY[] = "libtkrun-net.so";
+
+/* A library, which tools/build_run puts next to the folder of tkrun. */
+static void find_library(const char *name, char *path, size_t size)
 {
 	char self[PATH_MAX];
 	ssize_t length = readlink("/proc/self/exe", self, sizeof(self) - 1);
@@ -17,7 +19,7 @@ static void find_library(char *path, size_t size)
 	self[length < 0 ? 0 : length] = 0;
 	for (int i = 0; i < 2 && strrchr(self, '/'); i++)
 		*strrchr(self, '/') = 0;
-	if (snprintf(path, size, "%s/lib/libtkrun.so", self) >= (int)size ||
+	if (snprintf(path, size, "%s/lib/%s", self, name) >= (int)size ||
 	    access(path, R_OK))
 		fail(STATUS_FAILED, "cannot read the library '%s'", path);
 	if (strpbrk(path, " :"))
@@ -26,18 +28,27 @@ static void find_library(char *path, size_t size)
 		     path);
 }
 
-/* Puts the library in front of LD_PRELOAD, without that of a tkrun outside. */
-static void set_preload(const char *library)
+static bool is_own(const char *path)
+{
+	const char *name = basename(path);
+
+	return !strcmp(name, LIBRARY) || !strcmp(name, NET_LIBRARY);
+}
+
+/* Puts the libraries in front of LD_PRELOAD, without those of a tkrun outside. */
+static void set_preload(const char *library, const char *net)
 {
 	const char *others = getenv("LD_PRELOAD");
 	char *copy = strdup(others ? others : ""), *end, *name;
-	char *list = malloc(strlen(library) + strlen(others ? others : "") + 2);
+	char *list = malloc(strlen(library) + strlen(net) + strlen(copy ? copy : "") + 3);
 
 	if (!copy || !list)
 		fail(STATUS_FAILED, "out of memory");
 	end = stpcpy(list, library);
+	if (*net)
+		end += sprintf(end, ":%s", net);
 	for (name = strtok(copy, " :"); name; name = strtok(NULL, " :")) {
-		if (strcmp(basename(name), "libtkrun.so"))
+		if (!is_own(name))
 			end += sprintf(end, ":%s", name);
 	}
 	if (setenv("LD_PRELOAD", list, 1))
@@ -46,10 +57,12 @@ static void set_preload(const char *library)
 	free(copy);
 }
 
-void preload_library(void)
+void preload_library(bool has_net)
 {
-	char library[PATH_MAX];
+	char library[PATH_MAX], net[PATH_MAX] = "";
 
-	find_library(library, sizeof(library));
-	set_preload(library);
+	find_library(LIBRARY, library, sizeof(library));
+	if (has_net)
+		find_library(NET_LIBRARY, net, sizeof(net));
+	set_preload(library, net);
 }

@@ -7,6 +7,7 @@
 
 #include <errno.h>
 #include <fcntl.h>
+#include <math.h>
 #include <stdio.h>
 #include <stdlib.h>
 #include <string.h>
@@ -168,6 +169,7 @@ static void set_counter(struct node *node, double host_hz)
 				  options->counter == COUNTER_TSC
 			  ? (long double)speed
 			  : (long double)node->plan.hz * speed / host_hz);
+	shared->read_cost = (uint64_t)ceil((double)options->read_cost * node->plan.hz / NANOS);
 	shared->nanos_per_cycle = 1e9 / (node->plan.hz * speed);
 	shared->speed = speed;
 	half = (double)(shared->mask / 2) * shared->nanos_per_cycle;
@@ -188,6 +190,18 @@ static void set_pace(struct node *node, bool is_alone)
 				    .shift = is_alone ? 0 : shared->scale_shift };
 }
 
+/* The true time is that of the program's counter. Without --node, nothing asks for it. */
+static void set_truth(struct run *run)
+{
+	const struct node *first = run->nodes;
+	const struct pace *pace = &first->pace;
+
+	run->truth = first->machine.shared->kind == COUNTER_SLEEPS
+			     ? pace_of(1)
+			     : pace_of(ldexpl((long double)pace->scale, -(int)pace->shift) *
+				       NANOS / first->plan.hz);
+}
+
 /* Makes the clocks of a node. All nodes count since the same moment of the host. */
 static void open_machine(const struct run *run, struct node *node, double host_hz)
 {
@@ -203,6 +217,9 @@ static void open_machine(const struct run *run, struct node *node, double host_h
 	shared = node->machine.shared;
 	set_counter(node, host_hz);
 	set_pace(node, run->count == 1);
+	node->error_ppm = node->options.error_ppm;
+	node->wander = wander_start(node->options.wander_ppm, node->options.seed,
+				    node->options.name);
 	shared->node = (uint32_t)(node - run->nodes);
 	shared->denies_set = node->options.denies_set;
 	shared->has_stamps = node->options.has_stamps;
@@ -248,4 +265,5 @@ void open_machines(struct run *run)
 		tree->controls[tree->control_count++] =
 			run->nodes[i].machine.control;
 	}
+	set_truth(run);
 }

@@ -2,14 +2,15 @@
 /* move_counter.c - moves a counter of sleeps, and wakes the threads whose time has come. */
 #define _GNU_SOURCE
 #include "idle.h"
+#include "moving.h"
+#include "net.h"
 
 #include <stdlib.h>
 #include <sys/syscall.h>
 
-/* Returns the cycles until a waiter's time, or 0 if its thread is about to wait, or
- * the entry isn't this owner's any more. */
-static uint64_t waiter_left(struct node *node, const struct waiter *waiter,
-			    uint64_t owner)
+enum { STEPS_MOST = 1000 }; /* of walks, until threads are looked at again */
+
+uint64_t waiter_left(struct node *node, const struct waiter *waiter, uint64_t owner)
 {
 	uint64_t left;
 
@@ -152,8 +153,7 @@ static bool wake_last(struct node *node)
 	return is_found;
 }
 
-/* Returns the common counter when a node's has moved by some cycles, or NEVER. */
-static uint64_t common_after(const struct node *node, uint64_t cycles)
+uint64_t common_after(const struct node *node, uint64_t cycles)
 {
 	if (cycles == NEVER)
 		return NEVER;
@@ -161,12 +161,13 @@ static uint64_t common_after(const struct node *node, uint64_t cycles)
 			   atomic_load(&node->machine.shared->cycles) + cycles);
 }
 
-/* Returns the common counter at the first of the threads' times, the orders and the events of all
- * nodes. Returns NEVER if there is none, or a thread is about to wait for a time that has come. */
+/* Returns the common counter at the first of the threads' times, the orders, the events and the
+ * arrivals of all nodes. Returns NEVER if there is none, or a thread is about to wait for a time
+ * that has come. */
 static uint64_t find_next(struct run *run)
 {
 	bool is_reached = false, is_due = events_next() <= run->elapsed;
-	uint64_t least = events_next();
+	uint64_t least = events_next(), arrival = net_next();
 
 	for (size_t i = 0; i < run->count; i++) {
 		struct node *node = &run->nodes[i];
@@ -180,7 +181,17 @@ static uint64_t find_next(struct run *run)
 	}
 	if (is_due)
 		return run->elapsed;
+	least = arrival < least ? arrival : least;
 	return is_reached ? NEVER : least;
+}
+
+/* Reads may have moved a counter further, and move it meanwhile. */
+static void raise_cycles(_Atomic uint64_t *cycles, uint64_t least)
+{
+	uint64_t now = atomic_load(cycles);
+
+	while (now < least && !atomic_compare_exchange_weak(cycles, &now, least))
+		;
 }
 
 /* Moves a node's counter to the common one, and carries out its orders. */
@@ -191,11 +202,12 @@ static void move_node(struct node *node, uint64_t common)
 	sigset_t saved;
 
 	machine_lock(machine, &saved);
-	atomic_store(&machine->shared->cycles, pace_cycles(&node->pace, common));
+	raise_cycles(&machine->shared->cycles, pace_cycles(&node->pace, common));
 	plan_run(&node->plan, machine);
 	if (!machine_is_asleep(machine))
 		machine_apply(machine, &update, 1);
 	machine_unlock(machine, &saved);
+	moves_note(machine);
 }
 
 /* Returns whether all threads of all nodes wait. A thread may look at rest, then act on its time
@@ -215,23 +227,53 @@ static bool all_wait(struct run *run)
 	return !has_last;
 }
 
-bool move_counter(struct run *run)
+/* Moves all counters, with their orders and the steps of their walks. */
+static void move_all(struct run *run, uint64_t common)
 {
-	uint64_t common;
-
-	run->tree.has_filter = run->listener >= 0;
-	if (!all_wait(run) || (run->count > 1 && control_serve(run)))
-		return false;
-	common = find_next(run);
-	if (common == NEVER)
-		return false;
 	run->elapsed = common;
 	for (size_t i = 0; i < run->count; i++)
 		move_node(&run->nodes[i], common);
+	wander_all_due(run);
+}
+
+/* Returns where the common counter moves to, or NEVER. At the steps of the nodes' walks before
+ * that, no thread's time comes, so the threads aren't looked at. A step changes where it moves. */
+static uint64_t pass_steps(struct run *run)
+{
+	uint64_t common = find_next(run), step = before_wander(run, common);
+
+	for (int i = 0; i < STEPS_MOST && step < common; i++) {
+		move_all(run, step);
+		common = find_next(run);
+		step = before_wander(run, common);
+	}
+	return step;
+}
+
+void move_and_wake(struct run *run, uint64_t common)
+{
+	move_all(run, common);
 	act_all_due(run);
 	for (size_t i = 0; i < run->count; i++) {
 		wake_reached(&run->nodes[i]);
 		machine_wake(&run->nodes[i].machine);
 	}
+}
+
+bool move_counter(struct run *run)
+{
+	uint64_t common;
+
+	run->tree.has_filter = run->listener >= 0;
+	if (!all_wait(run))
+		return follow_spin(run);
+	if (run->count > 1 && (control_serve(run) || net_serve(run->elapsed)))
+		return false;
+	if (follow_reads(run))
+		return true;
+	common = pass_steps(run);
+	if (common == NEVER)
+		return false;
+	move_and_wake(run, common);
 	return true;
 }

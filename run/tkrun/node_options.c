@@ -8,11 +8,13 @@
 #include <stdlib.h>
 #include <string.h>
 
-/* A record R has the file R.rows while the program runs, and R.nodes next to those of the nodes. */
-static const char *const RESERVED[] = { "rows", "nodes" };
+/* A record R has the file R.rows while the program runs, R.nodes next to those of the nodes, which
+ * contains the true time by its name, and R.readers with --readers. The others are commands of
+ * `tkrun ctl`. */
+static const char *const RESERVED[] = { "rows", "nodes", "readers", TRUE_NAME, "partition", "heal" };
 
-static const char *const OPTIONS[] = { "error-ppm", "start", "ahead", "uptime", "script",
-				       "hz",	    "bits",  "maxsec" };
+static const char *const OPTIONS[] = { "error-ppm",  "start", "ahead", "uptime", "script", "hz",
+				       "bits",	     "maxsec", "wander-ppm", "seed", "address" };
 
 bool is_node_name(const char *text)
 {
@@ -26,11 +28,31 @@ bool is_node_name(const char *text)
 	return !text[length] && length <= NODE_NAME_MOST && isalpha((unsigned char)*text);
 }
 
+size_t find_node(const struct options *options, const char *name)
+{
+	size_t i = options->node_count;
+
+	while (i && strcmp(options->nodes[i - 1].name, name))
+		i--;
+	return i;
+}
+
 void add_node(struct options *options, const char *words)
 {
 	if (options->node_count == NODES_MOST)
 		fail(STATUS_WRONG, "--node: there are more than %d", NODES_MOST);
 	options->node_words[options->node_count++] = words;
+}
+
+bool parse_node_option(struct options *options, const char *name, const char *value)
+{
+	if (!strcmp(name, "wander-ppm"))
+		options->wander_ppm = decimal(name, value, 0, 100000);
+	else if (!strcmp(name, "seed"))
+		options->seed = whole(name, value, 0, UINT64_MAX);
+	else
+		return false;
+	return true;
 }
 
 /* Parses "OPTION=VALUE". */
@@ -63,8 +85,8 @@ static struct options common_options(const struct options *all)
 {
 	struct options node = *all;
 
-	node.node_count = 0;
-	node.has_start = node.has_ahead = node.has_uptime = false;
+	node.node_count = node.link_count = 0;
+	node.has_start = node.has_lead = node.has_ahead = node.has_uptime = false;
 	node.ahead = 0;
 	node.script = NULL;
 	return node;
@@ -86,6 +108,8 @@ static void parse_node(const struct options *all, const char *words, struct opti
 		parse_word(node, word);
 	if (all->record)
 		node->record = copy_of(all->record, node->name);
+	if (node->wander_ppm != 0 && all->counter != COUNTER_SLEEPS)
+		fail(STATUS_WRONG, "wander-ppm needs --counter sleeps");
 	compare_options(node);
 	node->has_uptime |= all->has_uptime && !node->script;
 }
@@ -100,6 +124,9 @@ void parse_nodes(struct options *options)
 		for (size_t j = 0; j < i; j++) {
 			if (!strcmp(options->nodes[i].name, options->nodes[j].name))
 				fail(STATUS_WRONG, "two nodes have this name");
+			if (options->nodes[i].address &&
+			    options->nodes[i].address == options->nodes[j].address)
+				fail(STATUS_WRONG, "two nodes have this address");
 		}
 		fail_within(NULL);
 	}

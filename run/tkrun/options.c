@@ -14,35 +14,6 @@
 
 enum { READS_MOST = 10000000 }; /* in a record: 26 scripts */
 
-static const char USAGE[] =
-	"usage: tkrun [OPTIONS] -- PROGRAM ARGS..\n"
-	"       tkrun node NAME -- PROGRAM ARGS..\n"
-	"       tkrun ctl NODE step|freq|suspend|leap [VALUE]\n"
-	"  --counter raw|tsc|sleeps  the counter (raw)\n"
-	"  --hz N, --bits N, --maxsec N\n"
-	"                            its description (1000000000 or the TSC's, 64, 1)\n"
-	"  --error-ppm X             it runs so much faster than described (0)\n"
-	"  --speed N                 it runs N times as fast as the host (1)\n"
-	"  --start TIME              REALTIME at the start: SEC[.NSEC] or\n"
-	"                            YYYY-MM-DDThh:mm:ss[.NSEC]Z (the host's)\n"
-	"  --ahead SEC               or its lead over the host's REALTIME\n"
-	"  --uptime SEC[.NSEC]       MONOTONIC and BOOTTIME at the start (0)\n"
-	"  --script FILE             opens and commands the clocks by a tkcore script\n"
-	"  --record FILE             records all commands, and reads\n"
-	"  --every N                 records each Nth read of a thread (1)\n"
-	"  --reads N                 records at most N reads (10000000)\n"
-	"  --check                   replays the record by tkcore, and compares\n"
-	"  --deny-set                calls that set the clocks get EPERM\n"
-	"  --stamps                  converts the kernel's stamps of packets\n"
-	"  --log FILE                writes a line for each call that sets the clocks\n"
-	"  --node NAME[,OPTION=VALUE]..\n"
-	"                            a machine with its own clocks, any number: `tkrun node` runs\n"
-	"                            programs there\n"
-	"  --plan FILE               what happens to nodes: lines `at SEC NODE COMMAND [VALUE]`\n"
-	"  --lax                     a program on the host's clocks doesn't end the run\n"
-	"  --static                  starts nothing if tkrun can't answer system calls\n"
-	"  --quiet                   prints no summary\n";
-
 static const char *node_name;
 
 void fail_within(const char *name)
@@ -64,8 +35,7 @@ void fail(int status, const char *form, ...)
 	exit(status);
 }
 
-/* Returns the number of an option's value. */
-static uint64_t whole(const char *option, const char *text, uint64_t least,
+uint64_t whole(const char *option, const char *text, uint64_t least,
 		      uint64_t most)
 {
 	unsigned long long value;
@@ -81,7 +51,7 @@ static uint64_t whole(const char *option, const char *text, uint64_t least,
 	return value;
 }
 
-static double decimal(const char *option, const char *text, double least,
+double decimal(const char *option, const char *text, double least,
 		      double most)
 {
 	char *end = NULL;
@@ -107,7 +77,7 @@ const char *parse_nsec(const char *text, uint32_t *nsec)
 	return text;
 }
 
-static void parse_start(struct options *options, const char *text)
+void parse_start(struct options *options, const char *text)
 {
 	struct tm date = { 0 };
 	const char *rest = strptime(text, "%Y-%m-%dT%H:%M:%S", &date);
@@ -159,11 +129,28 @@ static enum counter_kind parse_counter(const char *text)
 static void set_flag(struct options *o, const char *name)
 {
 	o->is_checked |= !strcmp(name, "check");
+	o->has_readers |= !strcmp(name, "readers");
 	o->denies_set |= !strcmp(name, "deny-set");
 	o->has_stamps |= !strcmp(name, "stamps");
 	o->is_static |= !strcmp(name, "static");
 	o->is_lax |= !strcmp(name, "lax");
 	o->is_quiet |= !strcmp(name, "quiet");
+}
+
+/* Parses an option of nodes. Returns false if it is another one. */
+static bool parse_nodes_option(struct options *o, const char *name, const char *value)
+{
+	if (!strcmp(name, "plan"))
+		o->plan = value;
+	else if (!strcmp(name, "node"))
+		add_node(o, value);
+	else if (!strcmp(name, "link"))
+		add_link(o, value);
+	else if (!strcmp(name, "address"))
+		o->address = parse_address(value);
+	else
+		return false;
+	return true;
 }
 
 void parse_option(struct options *o, const char *name, const char *value)
@@ -181,7 +168,7 @@ void parse_option(struct options *o, const char *name, const char *value)
 	else if (!strcmp(name, "speed"))
 		o->speed = decimal(name, value, 0.000001, 100000);
 	else if (!strcmp(name, "start"))
-		parse_start(o, value);
+		parse_start_words(o, value);
 	else if (!strcmp(name, "ahead"))
 		o->ahead = decimal(name, value, -1e9, 1e9);
 	else if (!strcmp(name, "uptime"))
@@ -196,11 +183,9 @@ void parse_option(struct options *o, const char *name, const char *value)
 		o->reads_most = whole(name, value, 0, INT64_MAX);
 	else if (!strcmp(name, "log"))
 		o->log = value;
-	else if (!strcmp(name, "plan"))
-		o->plan = value;
-	else if (!strcmp(name, "node"))
-		add_node(o, value);
-	else
+	else if (!strcmp(name, "read-cost"))
+		o->read_cost = whole(name, value, 0, NANOS);
+	else if (!parse_nodes_option(o, name, value) && !parse_node_option(o, name, value))
 		set_flag(o, name);
 	o->has_ahead |= !strcmp(name, "ahead");
 	o->has_uptime |= !strcmp(name, "uptime");
@@ -223,9 +208,9 @@ static bool is_same_file(const char *one, const char *other)
 
 void compare_options(const struct options *o)
 {
-	if (o->has_start && o->has_ahead)
+	if ((o->has_start || o->has_lead) && o->has_ahead)
 		fail(STATUS_WRONG, "--start and --ahead exclude each other");
-	if (o->script && (o->has_start || o->has_ahead || o->has_uptime))
+	if (o->script && (o->has_start || o->has_lead || o->has_ahead || o->has_uptime))
 		fail(STATUS_WRONG,
 		     "--script opens the clocks, so --start, --ahead and --uptime can't");
 	if (is_same_file(o->record, o->log) ||
@@ -236,6 +221,10 @@ void compare_options(const struct options *o)
 	if ((o->every != 1 || o->limits_reads) && !o->record && !o->is_checked)
 		fail(STATUS_WRONG, "--%s needs --record or --check",
 		     o->limits_reads ? "reads" : "every");
+	if (o->has_readers && !o->record)
+		fail(STATUS_WRONG, "--readers needs --record");
+	if (o->read_cost && o->counter != COUNTER_SLEEPS)
+		fail(STATUS_WRONG, "--read-cost needs --counter sleeps");
 	if (o->plan && !o->node_count && !o->name)
 		fail(STATUS_WRONG, "--plan needs --node");
 	if (o->counter == COUNTER_SLEEPS && !o->name &&
@@ -259,6 +248,9 @@ void parse_options(int count, char **words, struct options *options)
 		{ "lax", 0, 0, 0 },	  { "node", 1, 0, 0 },
 		{ "plan", 1, 0, 0 },	  { "help", 0, 0, 'h' },
 		{ "version", 0, 0, 'v' }, { "reads", 1, 0, 0 },
+		{ "readers", 0, 0, 0 },
+		{ "read-cost", 1, 0, 0 },
+		{ "link", 1, 0, 0 },
 		{ 0, 0, 0, 0 },
 	};
 	int letter, index;
@@ -269,7 +261,7 @@ void parse_options(int count, char **words, struct options *options)
 	};
 	while ((letter = getopt_long(count, words, "+h", LIST, &index)) >= 0) {
 		if (letter == 'h')
-			fputs(USAGE, stdout);
+			print_usage();
 		if (letter == 'v')
 			printf("tkrun %d.%d.%d\n", TKC_VERSION_MAJOR,
 			       TKC_VERSION_MINOR, TKC_VERSION_PATCH);
@@ -284,5 +276,6 @@ void parse_options(int count, char **words, struct options *options)
 		     "no program: tkrun [OPTIONS] -- PROGRAM ARGS..");
 	compare_options(options);
 	parse_nodes(options);
+	parse_links(options);
 	options->program = words + optind;
 }

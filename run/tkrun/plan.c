@@ -13,21 +13,6 @@
 #include <stdlib.h>
 #include <string.h>
 
-/* Reads a script's bytes, and ends tkrun if it can't. */
-static char *read_file(const char *path, size_t *length)
-{
-	char *text = malloc(SCRIPT_LIMIT + 1);
-	FILE *file = text ? fopen(path, "re") : NULL;
-
-	if (file)
-		*length = fread(text, 1, SCRIPT_LIMIT + 1, file);
-	if (!file || ferror(file))
-		fail(STATUS_WRONG, "--script: cannot read '%s': %s", path,
-		     strerror(errno));
-	fclose(file);
-	return text;
-}
-
 static double rate_of(const struct tkc_counter *counter)
 {
 	uint32_t bits, mult, shift;
@@ -99,22 +84,28 @@ static bool has_discipline(const struct plan *plan,
 		       sizeof(script->numbers));
 }
 
+bool plan_open_script(struct plan *plan, const struct steered_script *script)
+{
+	plan->counter = script->counter;
+	plan->hz = rate_of(&plan->counter);
+	plan->is_steered = script->hz;
+	plan->ticks = script->hz ? script->hz : TICKS_HZ;
+	return find_opening(plan, &script->clock) && open_steered(plan) &&
+	       has_discipline(plan, script);
+}
+
 static void read_script(struct plan *plan, const char *path)
 {
-	struct steered_script script;
+	struct steered_script script = { 0 };
 	struct fault fault;
 	size_t length;
-	char *text = read_file(path, &length);
+	char *text = steered_text(path, &length);
 
+	if (!text)
+		fail(STATUS_WRONG, "--script: cannot read '%s': %s", path, strerror(errno));
 	if (!steered_parse(&script, text, length, &fault))
 		fail_script(&fault);
-	plan->counter = script.counter;
-	plan->hz = rate_of(&plan->counter);
-	plan->is_steered = script.hz;
-	if (plan->is_steered)
-		plan->ticks = script.hz;
-	if (!find_opening(plan, &script.clock) || !open_steered(plan) ||
-	    !has_discipline(plan, &script))
+	if (!plan_open_script(plan, &script))
 		fail(STATUS_WRONG,
 		     "--script: record 1: tkrun can't continue running clocks");
 	plan->orders = script.orders;

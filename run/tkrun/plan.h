@@ -5,6 +5,8 @@
 
 #include "options.h"
 
+struct steered_script;
+
 /* The parts of a second into which the discipline divides phases, unless a script
  * says it: those of Debian's kernels. */
 enum { TICKS_HZ = 250 };
@@ -29,6 +31,9 @@ struct plan {
  * a sentence. */
 void plan_make(struct plan *plan, const struct options *options, double hz,
 	       const struct plan *first);
+
+/* Opens the clocks of a script, which have accepted no command. Returns false if they have. */
+bool plan_open_script(struct plan *plan, const struct steered_script *script);
 
 /* Makes the opened clocks without their discipline, for a record. */
 void plan_open_clock(const struct plan *plan, struct tkc_clock *clock);

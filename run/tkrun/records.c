@@ -2,6 +2,7 @@
 /* records.c - starts and ends the records of the nodes. */
 #define _GNU_SOURCE
 #include "tkrun.h"
+#include "record/readers.h"
 
 #include <errno.h>
 #include <inttypes.h>
@@ -62,6 +63,10 @@ static int check_record(const struct node *node, bool is_written)
 			"tkrun: %scheck: %" PRIu64
 			" lines differ from tkcore's\n",
 			name, differ);
+		return STATUS_DIFFERS;
+	}
+	if (recording->has_readers && is_written && readers_check(recording)) {
+		fprintf(stderr, "tkrun: %scheck: the readers don't fit the record\n", name);
 		return STATUS_DIFFERS;
 	}
 	if (!is_written) {

@@ -7,9 +7,10 @@
  * loaded, and brings the clocks forward until no process is left.
  */
 #define _GNU_SOURCE
-#include "tkrun.h"
+#include "net.h"
 #include "processes/coverage.h"
 #include "processes/uncovered.h"
+#include "record/merge.h"
 
 #include <errno.h>
 #include <fcntl.h>
@@ -171,8 +172,18 @@ static void hold_standard_files(void)
 		close(file);
 }
 
+/* Lets the library and the image look at each read if it costs something, or else at those that are
+ * recorded. */
+static void look_at_reads(const struct machine *machine)
+{
+	struct rows *rows = &machine->control->rows;
+
+	rows->looks_every = machine->shared->read_cost ? 1 : rows->every;
+}
+
 static void remove_all(void)
 {
+	net_remove(the_run.nodes->folder);
 	for (size_t i = the_run.count; i-- > 0;)
 		remove_files(&the_run.nodes[i]);
 }
@@ -188,10 +199,14 @@ static void open_all(struct run *run)
 		strcpy(run->nodes[i].machine.control->log.path, options->log);
 	if (options->record || options->is_checked)
 		start_records(run);
-	for (size_t i = 0; i < run->count; i++)
+	for (size_t i = 0; i < run->count; i++) {
+		look_at_reads(&run->nodes[i].machine);
 		run_first_orders(&run->nodes[i]);
+		moves_note(&run->nodes[i].machine);
+	}
 	if (run->count > 1)
 		control_open(run);
+	net_open(run);
 	act_all_due(run);
 }
 
@@ -212,13 +227,14 @@ int main(int count, char **words)
 
 	enter_node(count, words);
 	control_node(count, words);
+	merge_records(count, words);
 	hold_standard_files();
 	parse_options(count, words, options);
 	read_plan(options);
 	if (options->is_lax)
 		uncovered_allow();
 	find_host_clock(run);
-	preload_library();
+	preload_library(options->link_count);
 	if (options->is_checked)
 		find_tkcore();
 	if (options->log)

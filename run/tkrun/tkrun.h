@@ -6,6 +6,7 @@
 #include "events.h"
 #include "pace.h"
 #include "signals.h"
+#include "wander.h"
 #include "processes/tree.h"
 #include "record/recording.h"
 #include "static/static.h"
@@ -20,6 +21,8 @@ struct node {
 	struct machine machine;
 	struct recording recording;
 	struct pace pace;
+	struct wander wander;
+	double error_ppm; /* of the counter, without its wander */
 	struct tree *tree; /* of the run */
 	struct idle *idles; /* by the place of a waiter */
 	char folder[PATH_MAX - 64];
@@ -34,6 +37,7 @@ struct run {
 	size_t count;
 	struct tree tree;
 	uint64_t elapsed; /* the common counter of sleeps: ns, or cycles if there is one node */
+	struct pace truth; /* ns of the true time, by the common counter */
 	uint64_t started, checked; /* the host's ns: the run, and its processes' clocks */
 	pid_t child; /* the program, or 0 when it has ended */
 	int status;
@@ -79,6 +83,13 @@ enum tkc_code act(struct run *run, const struct event *event);
 /* Lets the events happen whose time has come, and prints refusals. */
 void act_all_due(struct run *run);
 
+/* Returns the next step of a node's walk before a value of the common counter, or that value. If it
+ * is NEVER, there is none: a walk doesn't move the counter. */
+uint64_t before_wander(const struct run *run, uint64_t common);
+
+/* Changes the errors of the counters whose step has come. */
+void wander_all_due(struct run *run);
+
 /* Opens the socket of `tkrun ctl`. The other answers a client. Returns whether there was one. */
 void control_open(const struct run *run);
 bool control_serve(struct run *run);
@@ -99,9 +110,9 @@ const char *find_run(void);
  * Returns if these aren't its arguments. */
 void enter_node(int count, char **words);
 
-/* Finds the library, and puts it in front of LD_PRELOAD. Ends tkrun if it can't
- * be preloaded. */
-void preload_library(void);
+/* Finds the library, and that of the network, and puts them in front of LD_PRELOAD. Ends tkrun if
+ * they can't be preloaded. */
+void preload_library(bool has_net);
 
 /* Starts the program. If it can't be run, ends tkrun as env(1) ends. */
 void start_program(struct run *run);

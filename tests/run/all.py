@@ -2,19 +2,25 @@
 
     all.py [--all] [MODULE..]
 
-Without a module, it runs the quick ones, and with --all those of servers and 2,000 kills too. The
-test of chronyd, which waits for a minute, the suites of others, and the tests that wait longest run
-next to the rest. No test is run twice: each holds on a busy machine too.
+Without a module, it runs the quick ones, and with --all those of servers and 2,000 kills too. Each
+module runs in a process of its own, and one more of them at once than there are processors, since
+many tests wait. What they print is printed in the order of their names. No test is run twice: each
+holds on a busy machine too.
 """
+import os
 import pathlib
 import subprocess
 import sys
 import unittest
+from concurrent import futures
 
 FOLDER = pathlib.Path(__file__).parent
-BESIDE = [["test_chrony"], ["test_kernel", "test_python", "test_faketime"],
-          ["test_masks", "test_waits"], ["test_nodes", "test_node_events"]]
-LONG = ["test_postgresql", "test_redis", "test_nginx", "test_many_kills"]
+MORE = 1  # modules that run at once, beyond the number of processors
+# the modules that take longest come first
+FIRST = ["test_kernel", "test_nodes", "test_waits", "test_masks", "test_python", "test_chrony",
+         "test_check", "test_calls", "test_net_streams", "test_net_connections",
+         "test_net_datagrams"]
+LONG = ["test_many_kills", "test_postgresql", "test_redis", "test_nginx"]
 
 
 def run(names):
@@ -26,25 +32,30 @@ def run(names):
     return result.wasSuccessful()
 
 
-def start(names):
-    """Starts such a run in a process of its own."""
-    return subprocess.Popen([sys.executable, "-B", __file__, *names], stdout=subprocess.PIPE,
-                            stderr=subprocess.STDOUT, text=True)
+def run_apart(name):
+    """Runs a module in a process of its own. Returns its status and what it prints."""
+    ran = subprocess.run([sys.executable, "-B", __file__, name], stdout=subprocess.PIPE,
+                         stderr=subprocess.STDOUT, stdin=subprocess.DEVNULL, text=True, check=False)
+    return ran.returncode, f"{name}:\n{ran.stdout}"
 
 
 def main(names, are_all):
     if names:
         return run(names)
-    groups = [start(names) for names in BESIDE + [LONG] * are_all]
-    besides = sum(BESIDE, LONG)
-    rest = sorted(path.stem for path in FOLDER.glob("test_*.py") if path.stem not in besides)
-    is_well = run(rest)
-    for group in groups:
-        print(group.communicate()[0], end="")
-        is_well = is_well and not group.returncode
+    modules = {path.stem for path in FOLDER.glob("test_*.py")}
+    first = LONG * are_all + FIRST
+    rest = sorted(modules - set(LONG) - set(FIRST))
+    is_well = True
+    with futures.ThreadPoolExecutor(len(os.sched_getaffinity(0)) + MORE) as pool:
+        ends = {name: pool.submit(run_apart, name) for name in first + rest}
+        for name in sorted(ends):
+            status, said = ends[name].result()
+            print(said, end="", flush=True)
+            is_well = is_well and not status
     return is_well
 
 
-sys.path.insert(0, str(FOLDER))
-ARGUMENTS = sys.argv[1:]
-sys.exit(not main([name for name in ARGUMENTS if name != "--all"], "--all" in ARGUMENTS))
+if __name__ == "__main__":
+    sys.path.insert(0, str(FOLDER))
+    ARGUMENTS = sys.argv[1:]
+    sys.exit(not main([name for name in ARGUMENTS if name != "--all"], "--all" in ARGUMENTS))

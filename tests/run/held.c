@@ -15,7 +15,7 @@
 #include <time.h>
 #include <unistd.h>
 
-/* Maps the lock: the first word of struct control in run/clocks/machine.h contains its owner. */
+/* Maps the lock: the first word of struct control in run/clocks/shared.h contains its owner. */
 static const volatile int *map_lock(void)
 {
 	char path[4096];

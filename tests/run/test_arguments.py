@@ -24,7 +24,9 @@ class Arguments(RunTest):
             "maxsec": ["0", "601"],
             "error-ppm": ["x", "nan", "1000001", "-500001", ""],
             "speed": ["0", "-1", "x", "100001", "inf"],
-            "start": ["", "x", "-1", "1.5.5", "1.", "1.0000000001", "2038-01-19",
+            "start": ["", "x", "-", "+", "+x", "-x1", "+2w", "+2dd", "+2d x", "+2d x0", "+2dx2", "x2",
+                      "+2d x2 x3", "+2d  x2", " x2", "5 x", "+1000000001", "-11575d", "+0x", "+-2",
+                      "+nan", "+inf", "1.5.5", "1.", "1.0000000001", "2038-01-19",
                       "2038-01-19T03:14:00", "8277292036", "2038-13-19T03:14:00Z",
                       "99999999999999999999"],
             "ahead": ["x", "", "1e10"],
@@ -55,7 +57,10 @@ class Arguments(RunTest):
     def test_options_that_contradict_each_other(self):
         script = self.file("s", "openhz,64,1000000000,1,0,5,0\n")
         self.refuse("--start", "1", "--ahead", "1")
+        self.refuse("--start", "+1", "--ahead", "1")
+        self.refuse("--ahead", "1", "--start", "-1")
         self.refuse("--script", script, "--start", "1")
+        self.refuse("--script", script, "--start", "+1")
         self.refuse("--script", script, "--ahead", "1")
         self.refuse("--script", script, "--uptime", "1")
         self.assertIn("before 1970", self.refuse("--start", "5", "--uptime", "6"))

@@ -91,7 +91,7 @@ class Around(RunTest):
         # the tkcore lists its signals
         tkcore, up = self.share() / "bin/tkcore", self.folder / "up"
         tkcore.write_text(f"#!/bin/sh\ntrap 'echo HUP >>{up}.signals' HUP\n"
-                          f"trap 'echo TERM >>{up}.signals; kill $!; trap - TERM; kill $$' TERM\n"
+                          f"trap 'echo TERM >>{up}.signals; kill -9 $!; trap - TERM; kill $$' TERM\n"
                           f"sleep 100 & echo $$ >{up}\nwhile :; do wait; done\n")
         run, started = self.start_check("--default-signal", "--ignore-signal=HUP")
         run.send_signal(signal.SIGHUP)

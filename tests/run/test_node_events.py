@@ -69,6 +69,18 @@ class Events(RunTest):
         for out, now in [(by_plan, 15 * SECOND + 1), (by_ctl, 15 * SECOND + 2)]:
             self.assertEqual(out, line(now - SECOND, now) + line(now, now) * 2)
 
+    def test_a_leap_second_instead_of_a_deleted_one(self):
+        # the request keeps the other bits of the status: STA_FREQHOLD, and not STA_DEL
+        self.file("ask.py", "import ctypes, struct, sys\n"
+                            "timex = ctypes.create_string_buffer(208)\n"
+                            "struct.pack_into('I36xi', timex, 0, *map(int, sys.argv[1:]))\n"
+                            "ctypes.CDLL(None).adjtimex(timex)\n"
+                            "print(struct.unpack_from('i', timex, 40)[0])\n")
+        ask = "$T node a -- python3 ask.py"
+        self.assertEqual(self.run_on(*OPTIONS, "--check", *self.script(
+            f"{ask} 16 {0x20 | 0x80}; $T ctl a leap; {ask} 0 0; sleep 15; $T node a -- $P")),
+            f"{0x20 | 0x80}\n{0x10 | 0x80}\n{line(14 * SECOND + 1, 15 * SECOND + 1)}")
+
     def test_waits_end_by_the_changed_clocks(self):
         # a sleeps for 10 s: 5 s, a suspension of 3 s, and 5 s of a counter that is twice as fast
         plan = self.file("plan", "# what happens to a\n\nat 5 a suspend 3\nat 8 a freq 1000000\n")
@@ -206,7 +218,8 @@ class Faults(RunTest):
         for words in [[], ["a"], ["a", "x" * 2000]]:
             run = call([TKRUN, "ctl", *words])
             self.assertEqual((run.returncode, run.stderr), (
-                2, "tkrun: tkrun ctl NODE step|freq|suspend|leap [VALUE]\n"))
+                2, "tkrun: tkrun ctl NODE step|freq|suspend|leap [VALUE], or "
+                   "tkrun ctl partition|heal NODE NODE\n"))
         run = self.start("--quiet", "--", TKRUN, "ctl", "a", "leap")
         self.assertEqual((run.returncode, run.stderr),
                          (2, "tkrun: ctl: there is no run with --node\n"))

@@ -151,7 +151,7 @@ class Nodes(RunTest):
             self.assertTrue(first * 3 // 2 - 2 <= node <= last * 3 // 2 + 2, out)
 
     def test_running_counters_start_at_the_same_moment(self):
-        # the second number of struct shared_page in run/clocks/machine.h, in the file of each node
+        # the second number of struct shared_page in run/clocks/shared.h, in the file of each node
         text = "for page in $TKRUN/page $TKRUN/node.a/page; do od -An -t u8 -j 8 -N 8 $page; done"
         first, second = self.run_on("--node", "a", *self.script(text)).split()
         self.assertEqual(first, second)
@@ -164,7 +164,8 @@ class Nodes(RunTest):
         for line in self.read("r.nodes").splitlines():
             name, *numbers = line.split(",")
             placed[name] = [int(number) for number in numbers]
-        self.assertEqual(sorted(placed), ["", *sorted(NODES)])
+        self.assertEqual(sorted(placed), ["", *sorted([*NODES, "true"])])
+        self.assertEqual(placed["true"], [0, 0, 1, 0])
         for name, (_, factor, *_) in NODES.items():
             common, reading, scale, shift = placed[name]
             self.assertEqual((common, reading, Fraction(scale, 2**shift)), (0, 0, factor))
@@ -213,7 +214,7 @@ class Faults(RunTest):
         return run.stderr
 
     def test_names(self):
-        for name in ["", "1", "-", "_a", "a b", "a/b", "a.b", "é", "rows", "nodes", "a" * 32, "=",
+        for name in ["", "1", "-", "_a", "a b", "a/b", "a.b", "é", "rows", "nodes", "true", "a" * 32, "=",
                      ".."]:
             with self.subTest(name=name):
                 self.assertEqual(self.refuse("--node", name).count(f"'{name}' isn't a name"), 1)

@@ -35,3 +35,16 @@ class Boot(Case):
     def test_a_warning_is_a_fault(self):
         self.assertEqual((1, "WARNING: a\nguest: done\n", self.last("boot: IMAGE complains")),
                          self.boot("printf 'WARNING: a\\nguest: done\\n'"))
+
+    def test_time_is_virtual_or_real(self):
+        words = 'echo "$*"\necho "guest: done"'
+        status, console, _ = self.boot(words)
+        self.assertEqual(0, status)
+        self.assertIn("-smp 1 -icount shift=5,sleep=off", console)
+        self.assertIn(" -kernel " + str(self.room / "image"), console)
+        self.assertIn("-icount shift=0,sleep=off", self.boot(words, "--shift", "0")[1])
+        status, console, _ = self.boot(words, "--real", "4")
+        self.assertEqual(0, status)
+        self.assertIn("-smp 4 -rtc base=utc -nic user,model=e1000", console)
+        self.assertIn(" no_timer_check\n", console)
+        self.assertNotIn("icount", console)

@@ -9,7 +9,7 @@ import time
 from tools import LOGIC, Case
 
 CHECKS = ["check_docs", "must_fail", "tests/tools", "check_using", "rt ci", "check_c",
-          "check_bindings", "check_program", "check_run", "check_kernel", "check_web"]
+          "check_bindings", "check_program", "check_run", "check_kernel", "check_web", "check_linux"]
 # (libtkcore.a stands for what check_c keeps)
 KEEPS = '[ "$1" = --libraries ] && [ "$3" = --keep ] && mkdir "$4" && touch "$4/libtkcore.a"'
 LIST = """# CHECK PACKAGE FOUND BY USED FOR
@@ -115,14 +115,14 @@ class Ci(Case):
         for name in "emulate", "c-part", "a-language":
             self.stand_in(name, "exit 0")
         status, verdicts, last, said = self.run_ci()
-        self.assertEqual((0, self.but(), "11 passed, 0 failed"), (status, verdicts, last))
+        self.assertEqual((0, self.but(), "12 passed, 0 failed"), (status, verdicts, last))
         self.assertEqual([], self.parts(said))
         self.assertFalse((self.room / "apt").exists())
 
     def test_a_check_without_its_packages_is_left_out_and_named(self):
         status, verdicts, last, said = self.run_ci()
         wanted = self.but(check_kernel="left out: emulator")
-        self.assertEqual((0, wanted, "10 passed, 0 failed, 1 skipped"), (status, verdicts, last))
+        self.assertEqual((0, wanted, "11 passed, 0 failed, 1 skipped"), (status, verdicts, last))
         # (parts are named also if their check says nothing of them)
         self.assertEqual(["the headers by c-part: part-of-c", "a program: a-language"],
                          self.parts(said))
@@ -131,7 +131,7 @@ class Ci(Case):
         for words, ci in ([["--install"], ""], [[], "true"]):
             with self.subTest(words):
                 status, verdicts, last, said = self.run_ci(*words, ci=ci)
-                self.assertEqual((0, self.but(), "11 passed, 0 failed"), (status, verdicts, last))
+                self.assertEqual((0, self.but(), "12 passed, 0 failed"), (status, verdicts, last))
                 self.assertIn("installing part-of-c emulator a-language\n", said)
                 for name in "emulate", "c-part", "a-language":
                     (self.first / name).unlink()
@@ -143,14 +143,14 @@ class Ci(Case):
         self.stand_in("apt-get", wait + APT.format(room=self.room, broken=""))
         self.stub("rt ci", f"touch {begun}")
         status, verdicts, last, said = self.run_ci(ci="true")
-        self.assertEqual((0, self.but(), "11 passed, 0 failed"), (status, verdicts, last))
+        self.assertEqual((0, self.but(), "12 passed, 0 failed"), (status, verdicts, last))
         self.assertLess(said.index("CI: must_fail ended"), said.index("installing part-of-c"))
 
     def test_packages_that_cannot_be_installed_leave_their_checks_out(self):
         self.apt("emulator")
         status, verdicts, last, said = self.run_ci(ci="true")
         wanted = self.but(check_kernel="left out: emulator")
-        self.assertEqual((0, wanted, "10 passed, 0 failed, 1 skipped"), (status, verdicts, last))
+        self.assertEqual((0, wanted, "11 passed, 0 failed, 1 skipped"), (status, verdicts, last))
         self.assertIn("tools/packages: emulator can't be installed:\nE: no emulator\n", said)
         self.assertIn("CI: not all packages could be installed:", said)
         # (apt-get installs none of several if one can't be, so the others were installed alone)
@@ -178,7 +178,7 @@ class Ci(Case):
         self.stand_in("apt-get", "echo 'E: Permission denied'\nexit 100")
         status, verdicts, last, said = self.run_ci(ci="true")
         wanted = self.but(check_kernel="left out: emulator")
-        self.assertEqual((0, wanted, "10 passed, 0 failed, 1 skipped"), (status, verdicts, last))
+        self.assertEqual((0, wanted, "11 passed, 0 failed, 1 skipped"), (status, verdicts, last))
         self.assertIn("tools/packages: apt-get update failed:\nE: Permission denied\n", said)
 
     def test_a_part_left_out_with_its_packages_installed_fails_where_they_are_to_be(self):
@@ -186,30 +186,30 @@ class Ci(Case):
         self.stub("check_run", "echo 'check_run: left out test_go: a-language isn'\"'t installed\"")
         part = "test_go: a-language isn't installed"
         status, verdicts, last, said = self.run_ci()
-        self.assertEqual((0, self.but(), "11 passed, 0 failed"), (status, verdicts, last))
+        self.assertEqual((0, self.but(), "12 passed, 0 failed"), (status, verdicts, last))
         self.assertIn(part, self.parts(said))
         status, verdicts, last, said = self.run_ci(ci="true")
         why = "failed: left out with its packages installed: test_go"
-        self.assertEqual((1, self.but(check_run=why), "10 passed, 1 failed"),
+        self.assertEqual((1, self.but(check_run=why), "11 passed, 1 failed"),
                          (status, verdicts, last))
         self.apt("a-language")
         (self.first / "a-language").unlink()
         status, verdicts, last, said = self.run_ci(ci="true")
-        self.assertEqual((0, self.but(), "11 passed, 0 failed"), (status, verdicts, last))
+        self.assertEqual((0, self.but(), "12 passed, 0 failed"), (status, verdicts, last))
         self.assertIn(part, self.parts(said))
 
     def test_a_part_left_out_for_another_reason_is_named_and_passes(self):
         why = "no TSC, and part-of-c has none"
         self.stub("check_c", f"{KEEPS}\necho 'check_c: left out: reads of the TSC: {why}'")
         status, verdicts, last, said = self.run_ci(ci="true")
-        self.assertEqual((0, self.but(), "11 passed, 0 failed"), (status, verdicts, last))
+        self.assertEqual((0, self.but(), "12 passed, 0 failed"), (status, verdicts, last))
         self.assertEqual([f"reads of the TSC: {why}"], self.parts(said))
 
     def test_a_check_that_fails_is_named_and_counted(self):
         self.stand_in("emulate", "exit 0")
         self.stub("check_run", "echo 'a test failed'\nexit 3")
         status, verdicts, last, said = self.run_ci()
-        self.assertEqual((1, self.but(check_run="failed: status 3"), "10 passed, 1 failed"),
+        self.assertEqual((1, self.but(check_run="failed: status 3"), "11 passed, 1 failed"),
                          (status, verdicts, last))
         self.assertIn("a test failed\n", said)
 
@@ -218,7 +218,7 @@ class Ci(Case):
         status, verdicts, last, _ = self.run_ci()
         rest = dict.fromkeys(CHECKS[2:], "not run: after a failure of must_fail")
         self.assertEqual((1, self.but(must_fail="failed: status 1", **rest),
-                          "1 passed, 1 failed, 9 skipped"), (status, verdicts, last))
+                          "1 passed, 1 failed, 10 skipped"), (status, verdicts, last))
 
     def test_the_library_for_c_is_checked_while_rt_ci_proves_the_crates_above(self):
         begun = self.room / "begun"
@@ -236,14 +236,14 @@ class Ci(Case):
         status, verdicts, last, said = self.run_ci()
         rest = dict.fromkeys(CHECKS[7:], "not run: after a failure of rt ci")
         self.assertEqual((1, self.but(**{"rt ci": "failed: status 1"}, **rest),
-                          "6 passed, 1 failed, 4 skipped"), (status, verdicts, last))
+                          "6 passed, 1 failed, 5 skipped"), (status, verdicts, last))
         self.assertIn("\n40 passed, 2 failed\n", said)
 
     def test_the_library_that_is_not_built_is_not_tried(self):
         self.stub("check_c", "exit 1")
         _, verdicts, last, _ = self.run_ci()
         self.assertEqual("not run: after a failure of check_c", verdicts["check_bindings"])
-        self.assertEqual("6 passed, 1 failed, 4 skipped", last)
+        self.assertEqual("6 passed, 1 failed, 5 skipped", last)
 
     def test_the_times_of_the_checks_are_printed_as_the_page_has_them(self):
         _, _, _, said = self.run_ci()

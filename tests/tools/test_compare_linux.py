@@ -5,7 +5,7 @@ TABLE = "| test | unmodified | on the library |\n|---|---|---|\n"
 
 
 class Compare(Case):
-    def compare(self, unmodified, tkcore, *stored):
+    def compare(self, unmodified, tkcore, *stored, options=()):
         """Compares consoles with these lines, and returns the status, the table and the faults."""
         consoles = self.room / "consoles"
         consoles.mkdir(exist_ok=True)
@@ -15,7 +15,7 @@ class Compare(Case):
         if stored:
             words = [self.room / "stored.md"]
             words[0].write_text(stored[0], encoding="utf-8")
-        status, said, errors = self.run_tool("ports/linux/compare", consoles, *words)
+        status, said, errors = self.run_tool("ports/linux/compare", *options, consoles, *words)
         self.assertTrue(said.startswith(TABLE), said)
         return status, said.removeprefix(TABLE), errors.replace("compare: ", "")
 
@@ -50,7 +50,7 @@ class Compare(Case):
 
     def test_each_call_has_its_limit(self):
         for call, most in (("f()", 115), ("ktime_get_mono_fast_ns()", 150),
-                           ("update_wall_time()", 205)):
+                           ("update_wall_time()", 160)):
             self.assertEqual((0, ""), self.cost(call, most))
             why = f"cost of {call}: {most + 1} is more than {most} % of 100\n"
             self.assertEqual((1, why), self.cost(call, most + 1))
@@ -68,3 +68,8 @@ class Compare(Case):
         self.assertEqual((1, why), self.compare(text, text, table.replace("| a | 4 | 4 |\n", ""))[::2])
         why = "b: stored, but not run\n"
         self.assertEqual((1, why), self.compare(text, text, f"{table}| b | 0 | 0 |\n")[::2])
+        part = {"options": ["--part"]}
+        self.assertEqual((0, ""), self.compare(text, text, f"{table}| b | 0 | 0 |\n", **part)[::2])
+        why = "a: not stored\n"
+        self.assertEqual((1, why), self.compare(
+            text, text, table.replace("| a | 4 | 4 |\n", ""), **part)[::2])

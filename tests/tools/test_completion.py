@@ -22,8 +22,8 @@ printf '%s\\n' "${{COMPREPLY[@]}}"
 
 
 def options():
-    """Returns the options that run/tkrun/options.c lists."""
-    text = (TOP / "run/tkrun/options.c").read_text(encoding="utf-8")
+    """Returns the options that run/tkrun/usage.c lists."""
+    text = (TOP / "run/tkrun/usage.c").read_text(encoding="utf-8")
     usage = text.partition("USAGE[] =")[2].partition(";\n")[0]
     return sorted({*re.findall(r"--[a-z-]+", usage), "--help", "--version"} - {"--"})
 
@@ -52,7 +52,8 @@ class Completion(Case):
 
     def test_bash_offers_each_option_of_tkrun(self):
         self.assertEqual(sorted(["--", *options()]), self.bash("tkrun", "-"))
-        self.assertEqual(["--reads", "--record"], self.bash("tkrun", "--quiet", "--r"))
+        self.assertEqual(["--read-cost", "--readers", "--reads", "--record"],
+                         self.bash("tkrun", "--quiet", "--r"))
         self.assertEqual(["raw", "sleeps", "tsc"], self.bash("tkrun", "--counter", ""))
         self.assertEqual([], self.bash("tkrun", "--hz", ""))
         (self.room / "record.csv").touch()

@@ -113,6 +113,42 @@ class Make(Case):
         self.assertEqual((2, "x86_64/tkcore.s: FAILED\n"), (status, said))
         self.assertIn("make: a text in release/ isn't the one that release/MANIFEST lists\n", errors)
 
+    def check_halves(self, library, run):
+        """Runs `make check` with other checks, which wait for each other. Returns what it does."""
+        self.make_library()
+        (self.top / "dist/bin/report").touch()
+        met = self.room / "met"
+        for name, status in (("check_c", library), ("check_run", run)):
+            path = self.top / "tools" / name
+            path.write_text(f"#!/bin/bash\necho {name} $*\n: >{met}.{name}\n"
+                            f"for ((i = 0; i < 30000; i++)); do\n"
+                            f"[ -e {met}.check_c ] && [ -e {met}.check_run ] && break\n"
+                            f"sleep 0.01\ndone\n[ $i = 30000 ] || echo {name} ends\n"
+                            f"exit {status}\n", encoding="utf-8")
+            path.chmod(0o755)
+        (self.top / "dist/bin/tkcore").write_text("#!/bin/sh\n", encoding="utf-8")
+        (self.top / "dist/bin/tkcore").chmod(0o755)
+        status, said, errors = self.make("check")
+        self.assertEqual(["check_c --built dist\ncheck_c ends\n", "check_run\ncheck_run ends\n"],
+                         sorted(re.findall(r"(?:check_\w+.*\n){2}", said)))
+        for path in self.room.glob("met.*"):
+            path.unlink()
+        return status, errors
+
+    def test_both_halves_of_the_check_run_at_once(self):
+        self.assertEqual((0, ""), self.check_halves(0, 0))
+        for library, run in ((1, 0), (0, 1), (1, 1)):
+            status, errors = self.check_halves(library, run)
+            self.assertEqual(2, status)
+            self.assertIn("check-library] Error 1" if library else "check-run] Error 1", errors)
+
+    def test_without_the_program_the_library_is_checked(self):
+        self.make_library()
+        (self.top / "dist/bin/report").touch()
+        (self.top / "tools/check_c").write_text("#!/bin/sh\necho $*\n", encoding="utf-8")
+        begin = "make: tests what is in dist/, and prints it at the end\n"
+        self.assertEqual((0, f"{begin}--built dist\n", ""), self.make("check"))
+
     def test_a_function_that_the_header_lacks_is_found(self):
         self.text.write_text(text() + ".text\n.globl tkc_more\ntkc_more: ret\n", encoding="utf-8")
         status, _, errors = self.make("dist/lib/libtkcore.a")
@@ -150,7 +186,7 @@ class Make(Case):
                          self.run_tool("tools/assemble", "library", top=self.top))
 
     def test_other_arguments_are_refused(self):
-        usage = "usage: tools/assemble library|program [FOLDER]\n"
+        usage = "usage: tools/assemble library|program|kernel [FOLDER]\n"
         self.assertEqual((0, usage, ""), self.run_tool("tools/assemble", "--help", top=self.top))
         for words in [], ["all"], ["library", "one", "two"]:
             with self.subTest(words):

@@ -17,7 +17,8 @@ sys.path.insert(0, str(TOP / "tools"))
 LOADER = SourceFileLoader("release", str(TOP / "tools/release"))
 release = importlib.util.module_from_spec(importlib.util.spec_from_loader("release", LOADER))
 LOADER.exec_module(release)
-manifest, making = release.manifest, release.making
+manifest, making, sources = release.manifest, release.making, release.sources
+SOURCES = dict(making.SOURCES)
 
 
 class Release(Case):
@@ -31,10 +32,12 @@ class Release(Case):
         self.enterContext(mock.patch.dict(making.PARTS, {
             name: lambda _, out, name=name: self.make(name, out) for name in self.texts}))
         self.enterContext(mock.patch.object(release.rattle, "require_logic"))
+        self.enterContext(mock.patch.dict(making.SOURCES, {
+            "library": ("tk_counter", ("c/text",)), "program": ("tk_clock", ())}))
 
     def make(self, part, out):
         """Stands in for what proves and compiles a part."""
-        lines = ["kit: one", "tk_c: logic=proved"]
+        lines = ["kit: one", "tk_c: logic=proved", sources.total(making.sources_of(part))]
         for name, content in self.texts[part].items():
             (out / name).parent.mkdir(parents=True, exist_ok=True)
             (out / name).write_bytes(content)
@@ -56,7 +59,7 @@ class Release(Case):
         self.assertEqual((0, "", ""), self.run_release("library"))
         self.assertEqual((0, "", ""), self.run_release("program"))
         parts = manifest.read(self.folder)
-        self.assertEqual(["library", "program"], sorted(parts))
+        self.assertEqual(["library", "program", "sources"], sorted(parts))
         self.assertEqual(["kit: one", "tk_c: logic=proved"], parts["program"][:2])
         self.assertEqual(["aarch64/tkcore.s", "x86_64/program.s.gz", "x86_64/tkcore.s"],
                          sorted(manifest.files(parts)))
@@ -168,22 +171,138 @@ class Release(Case):
     def test_other_arguments_are_refused(self):
         for words in ([], ["all"], ["--verify", "library"], ["--compare", "dist", "riscv64"],
                       ["--compare", "dist", "--verify"], ["--compare-program", "program"],
-                      ["--compare-program", "--verify"],
+                      ["--compare-program", "--verify"], ["--compare-sources", "library"],
+                      ["--compare-sources", "--verify"],
                       ["--compare-program", "--compare", "dist"]):
             with self.subTest(words):
                 status, said, errors = self.run_release(*words)
                 self.assertEqual((2, ""), (status, said))
                 self.assertTrue(errors.endswith("release: error: other arguments\n"))
 
-    def test_the_sum_of_the_sources_depends_on_each_file(self):
-        top = self.copy("crates.txt", "crates/tk_counter")
+    def small_tree(self):
+        """Makes the tools work on a copy of two crates and of a tool. Returns its top folder."""
+        top = self.copy("crates.txt", "crates/tk_counter", "crates/tk_clock")
+        self.enterContext(mock.patch.object(release.rattle, "ROOT", top))
+        return top
+
+    def test_the_sources_are_listed_with_their_tree(self):
+        top = self.small_tree()
+        self.run_release("library", "program")
+        tree, *lines = manifest.read(self.folder)["sources"]
+        names = ["tools/c/text", *(f"crates/{crate}/{path.relative_to(top / 'crates' / crate)}"
+                                   for crate in ("tk_counter", "tk_clock")
+                                   for part in ("src", "specs", "proofs")
+                                   for path in (top / "crates" / crate / part).rglob("*.*"))]
+        self.assertGreater(len(names), 100)
+        said = subprocess.run(["sha256sum", *sorted(names)], cwd=top, check=True, text=True,
+                              capture_output=True).stdout
+        self.assertEqual(said.splitlines(), lines)
+        self.assertEqual(f"tree: {self.git_tree(top, names)} of {len(names)} files", tree)
+        given = [name for name in names if "tk_clock/" not in name]
+        said = subprocess.run("xargs sha256sum | LC_ALL=C sort | sha256sum", cwd=top, check=True,
+                              shell=True, input="\n".join(given), text=True,
+                              capture_output=True).stdout
+        self.assertEqual(f"sources: {said.split()[0]} of {len(given)} files",
+                         manifest.read(self.folder)["library"][2])
+
+    def test_the_sources_of_each_part(self):
+        for part, crate, has, lacks in [("library", "tk_c", "tools/c/text", "tools/c/module"),
+                                        ("program", "tkcore", "tools/c/text", "tools/c/module"),
+                                        ("module", "tk_c", "tools/c/module", "tools/c/text")]:
+            with self.subTest(part), mock.patch.dict(making.SOURCES, SOURCES):
+                names = making.sources_of(part)
+                self.assertIn(has, names)
+                self.assertNotIn(lacks, names)
+                crates = {name.split("/")[1] for name in names if name.startswith("crates/")}
+                below = {it.name for it in release.rattle.crates()[crate].below}
+                self.assertEqual({crate, *below}, crates)
+
+    def git_tree(self, top, names):
+        """Returns the id that git gives a tree of these files."""
+        run = {"cwd": top, "check": True, "text": True, "capture_output": True}
+        subprocess.run(["git", "init", "-q"], **run)
+        subprocess.run(["git", "update-index", "--add", "--stdin"], input="\n".join(names), **run)
+        return subprocess.run(["git", "write-tree"], **run).stdout.strip()
+
+    def test_the_tree_has_the_order_and_the_modes_of_git(self):
+        top = self.room / "top"
+        names = ["a.b", "a/b", "a/b.c", "a0", "a/b0/c", "a-", "B", "z/y/x"]
+        for name in names:
+            (top / name).parent.mkdir(parents=True, exist_ok=True)
+            (top / name).write_text(f"{name}\n", encoding="utf-8")
+        (top / "a0").chmod(0o755)
+        (top / "z/y/x").chmod(0o700)
         with mock.patch.object(release.rattle, "ROOT", top):
-            crate = release.rattle.crates()["tk_counter"]
-            before = making.sources([crate])
-            path = next(pathlib.Path(top, "crates/tk_counter/src").glob("*.rt"))
-            path.write_text(path.read_text(encoding="utf-8") + "\n", encoding="utf-8")
-            self.assertNotEqual(before, making.sources([crate]))
-            self.assertRegex(before, r"\Asources: [0-9a-f]{64} of \d+ files\Z")
+            self.assertEqual(self.git_tree(top, names), sources.tree(names))
+
+    def different_sources(self):
+        """Returns what differs, as both commands that compare the sources say."""
+        status, said, errors = self.run_release("--compare-sources")
+        if not status:
+            self.assertEqual(("", ""), (said, errors))
+            self.assertEqual(0, self.run_release("--verify")[0])
+            return ""
+        self.assertEqual((1, ""), (status, said))
+        names = errors.removeprefix("tools/release: release/MANIFEST has other sources: ")
+        status, said, _ = self.run_release("--verify")
+        self.assertEqual((1, f"tools/release: differs: MANIFEST {names}"), (status, said))
+        return names.removesuffix("\n")
+
+    def test_other_sources_are_named(self):
+        top = self.small_tree()
+        self.run_release("library", "program")
+        self.assertEqual("", self.different_sources())
+        path = top / "crates/tk_clock/src/clock.rt"
+        content = path.read_bytes()
+        path.write_bytes(content + b"\n")
+        self.assertEqual("crates/tk_clock/src/clock.rt [program]", self.different_sources())
+        path.unlink()
+        self.assertEqual("crates/tk_clock/src/clock.rt [program]", self.different_sources())
+        path.write_bytes(content)
+        more = top / "crates/tk_counter/proofs/deeper/Other.antt"
+        more.parent.mkdir()
+        more.touch()
+        self.assertEqual("crates/tk_counter/proofs/deeper/Other.antt [library] [program]",
+                         self.different_sources())
+        more.unlink()
+        (top / "tools/c/text").write_text("\n", encoding="utf-8")
+        self.assertEqual("tools/c/text [library]", self.different_sources())
+
+    def test_a_part_that_was_made_from_other_sources(self):
+        top = self.small_tree()
+        self.run_release("library", "program")
+        path = top / "crates/tk_counter/src/counter.rt"
+        path.write_bytes(path.read_bytes() + b"\n")
+        self.run_release("library")
+        self.assertEqual("[program]", self.different_sources())
+
+    def test_a_file_that_can_be_executed_differs(self):
+        top = self.small_tree()
+        self.run_release("library", "program")
+        (top / "tools/c/text").chmod(0o644)
+        self.assertEqual("[sources]", self.different_sources())
+
+    def test_the_sources_are_compared_without_a_toolchain(self):
+        self.small_tree()
+        self.run_release("library")
+        with mock.patch.object(release.rattle, "require_logic", side_effect=SystemExit(2)):
+            self.assertEqual((0, "", ""), self.run_release("--compare-sources"))
+            self.assertEqual(2, self.run_release("--verify")[0])
+
+    def test_a_manifest_without_sources(self):
+        self.run_release("library")
+        parts = manifest.read(self.folder)
+        number = len(parts.pop("sources")) - 1
+        manifest.write(self.folder, parts)
+        self.assertEqual(number, len(self.different_sources().split()))
+
+    def test_the_manifest_lists_the_sources_of_its_parts(self):
+        parts = manifest.read(TOP / "release")
+        tree, *lines = parts["sources"]
+        self.assertEqual(f"of {len(lines)} files", tree.partition(" ")[2].partition(" ")[2])
+        self.assertEqual(lines, sorted(lines, key=lambda line: line[66:]))
+        for line in lines:
+            self.assertRegex(line, r"\A[0-9a-f]{64}  (crates/tk\w+/(src|specs|proofs)|tools)/\S+\Z")
 
 
 if __name__ == "__main__":

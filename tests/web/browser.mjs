@@ -162,6 +162,39 @@ async function checkReads(browser) {
     require(await browser.value(said) === '', await browser.value(said));
 }
 
+/** Opens files as a user does. */
+async function openFiles(browser, files) {
+    const { root } = await browser.send('DOM.getDocument');
+    const { nodeId } = await browser.send('DOM.querySelector', { nodeId: root.nodeId, selector: '#file' });
+    const paths = Object.entries(files).map(([name, text]) => {
+        fs.writeFileSync(path.join(browser.folder, name), text);
+        return path.join(browser.folder, name);
+    });
+    await browser.value(`document.getElementById('verdict').textContent = 'running'`);
+    await browser.send('DOM.setFileInputFiles', { nodeId, files: paths });
+    await browser.until(SETTLED);
+}
+
+/** A record and its readers are opened together or one after the other; another script has none. */
+async function checkReaders(browser) {
+    const script = 'open,32,16777216,24,0,1700000000,0\nget,5,realtime\nstep,7,-2,0\nget,9,realtime\n';
+    const readers = '2,5,31,32,gettimeofday,perl\n4,9,31,31,time,perl\n';
+    const said = () => browser.value(`document.getElementById('reads').textContent`);
+    const counts = 'reads: 2 of realtime\nlongest time without a read: 0.000000004 s, before record 4\n'
+        + 'realtime went back once, by 1.999999996 s at record 4';
+    const whole = `${counts}\nrealtime read by perl, process 31, 2 threads: 1 by gettimeofday, 1 by time\n`
+        + 'realtime went back for perl, process 31, once, by 1.999999996 s at record 4';
+    for (const [files, wanted] of [[{ 'r': script, 'r.readers': readers }, whole], [{ 'r': script }, counts],
+        [{ 'r.readers': readers }, whole],
+        [{ 'other.readers': readers.slice(0, 28) }, `${counts}\nreaders: record 4 has no line`]]) {
+        await openFiles(browser, files);
+        require(await said() === wanted, `${Object.keys(files)}: ${await said()}`);
+        require(await browser.value(VERDICT) === 'done 4 records, 0 refused', await browser.value(VERDICT));
+    }
+    await browser.value(`document.getElementById('examples').dispatchEvent(new Event('change')), 0`);
+    await browser.until(`!document.getElementById('reads').textContent.includes('readers:')`);
+}
+
 /** A script that takes minutes is ended, and the page runs the next one. */
 async function checkLimit(browser) {
     await runScript(browser, 'open,63,1000,4,4611686018427387903,1704067199,0,1\n'
@@ -182,6 +215,7 @@ async function check(browser, page) {
         await checkExample(browser, name);
     await checkCursor(browser);
     await checkReads(browser);
+    await checkReaders(browser);
     await checkLimit(browser);
     require(!browser.errors.length, browser.errors.join('\n'));
     console.log(`${names.length} examples in ${path.basename(page)} have their reports and panels`);

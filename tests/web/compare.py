@@ -22,6 +22,7 @@ sys.path.insert(0, str(TOP / "tests" / "model"))
 # pylint: disable=wrong-import-position
 import compare
 import model
+import readers
 
 DATA = TOP / "crates" / "tk_examples" / "data"
 OPEN = b"open,32,16777216,24,0,1700000000,0\n"
@@ -43,8 +44,17 @@ get,600000000,realtime
 get,700000000,monotonic,699999999
 get,3000000000,tai
 """
+# enough reads for many programs, and for many processes for which REALTIME goes back
+MANY = OPEN + b"".join(b"get,%d,realtime\nstep,%d,-1,0\n" % (reading, reading) for reading in range(1000, 1150))
+# reads that state a value, where BOOTTIME is past its end, so they have no place on the ideal line
+PLACELESS = OPEN + b"".join(
+    b"suspend,%d\nresume,%d,%d,0\nset,%d,5,0\n" % (reading, reading, sec, reading)
+    for reading, sec in enumerate([940_000_000] * 9 + [763_372_035])) + b"".join(
+    b"get,2000000000,realtime,1800000000000000000\nget,%d,realtime\n" % reading for reading in range(60))
 EDGES = [
     *[READS] * 4,  # (each fourth script is drawn)
+    *[MANY] * 4,
+    *[PLACELESS] * 4,
     MARKED,
     # the greatest front, and one more
     *(MARKED.replace(b",5,2597764268", b",%d,2597764268" % front) for front in (2**62, 2**62 + 1)),
@@ -57,10 +67,12 @@ EDGES = [
 ]
 
 
-def answers(given, scripts):
-    """Returns the status, the output, the error and what is drawn of each script, or None."""
+def answers(given, scripts, whose):
+    """Returns the status, the output, the error and what is drawn of each script, or None. A script
+    may have the text of its readers."""
     words = ["node", *given.node, str(TOP / "tests/web/reports.mjs"), given.module]
-    lines = b"".join(base64.b64encode(script) + b"\n" for script in scripts)
+    lines = b"".join(b" ".join(map(base64.b64encode, (script, *whose.get(script, ())[:1]))) + b"\n"
+                     for script in scripts)
     ran = subprocess.run(words, input=lines, capture_output=True, check=False)
     if ran.returncode:
         sys.exit(ran.stderr.decode())
@@ -194,6 +206,10 @@ def falls_of(reads):
             since = i
 
 
+def span_text(span):
+    return f"{span // 10**9}.{span % 10**9:09} s"
+
+
 def said_of(reads):
     """Returns the lines that the page must have for reads."""
     if not reads:
@@ -204,20 +220,29 @@ def said_of(reads):
     pauses = [(placed[i][3] - max(it[3] for it in placed[:i]), placed[i][1]) for i in range(1, len(placed))]
     lines, (span, number) = [f"reads: {', '.join(counts)}"], max(pauses, key=lambda it: it[0], default=(0, 0))
     if span > 0:
-        lines.append(f"longest time without a read: {span // 10**9}.{span % 10**9:09} s, before record {number}")
+        lines.append(f"longest time without a read: {span_text(span)}, before record {number}")
     found = {clock: list(falls_of([it[1:] for it in placed if it[0] == clock and it[2] is not None]))
              for clock in clocks}
     for clock, falls in sorted(found.items(), key=lambda it: it[1][:1]):
         if falls:
             number, span = max(falls, key=lambda it: it[1])
             many = "once," if len(falls) == 1 else f"{len(falls)} times, at most"
-            lines.append(f"{clock} went back {many} by {span // 10**9}.{span % 10**9:09} s at record {number}")
+            lines.append(f"{clock} went back {many} by {span_text(span)} at record {number}")
     return lines
 
 
-def wrong_reads(given, script, said):
+def is_plain(script):
+    """Whether a line is a record, and the script is short."""
+    return not set(script) & set(b'"\r\xef') and len(script) < 100_000
+
+
+def wrong_reads(given, script, said, whose):
     """Returns what is wrong with what the page says of a script's reads, or None."""
-    wanted = said_of(list(reads_of(given, script)))
+    reads = list(reads_of(given, script))
+    wanted = said_of(reads)
+    if whose:
+        _, who, fault = whose
+        wanted += [f"readers: {fault}"] if fault else readers.said(reads, who, falls_of, span_text)
     if said == wanted:
         return None
     return "\n".join([script.decode(), "--- page:", *said, "--- wanted:", *wanted])
@@ -258,19 +283,21 @@ def main():
     scripts = [*EDGES, *(script for script, fault in faulty() if not fault)]
     scripts += [compare.script(rng) for _ in range(given.scripts)]
     pairs += [(script, wanted_of(given, script)) for script in scripts]
-    found = answers(given, [script for script, _ in pairs])
+    whose = {script: readers.made(rng, script) for script, (status, *_) in pairs
+             if status != 1 and is_plain(script) and (script in EDGES or rng.random() < 0.8)}
+    found = answers(given, [script for script, _ in pairs], whose)
     drawn = [(script, some) for (script, _), (*_, some) in zip(pairs, found) if some]
     cursors = [cursor for _, some in drawn for cursor in some["cursors"]]
-    plain = [(script, some["reads"]) for script, some in drawn if not set(script) & set(b'"\r\xef')
-             and len(script) < 100_000]
+    plain = [(script, some["reads"], whose.get(script)) for script, some in drawn if is_plain(script)]
     if wrong := first_difference(pairs, found) or next(filter(None, [
             *(wrong_cursor(given, cursor) for cursor in cursors),
-            *(wrong_reads(given, script, said) for script, said in plain)]), None):
+            *(wrong_reads(given, *it) for it in plain)]), None):
         sys.exit(wrong)
     print(f"{count} examples, {stated} faults, {len(journals)} full journal(s) and {len(scripts)} scripts of "
           f"seed {given.seed}: each report, and "
           f"what {len(cursors)} cursors show, is {'the program' if given.program else 'the model'}'s, "
-          f"as what the page says of the reads of {len(plain)} scripts")
+          f"as what the page says of the reads of {len(plain)} scripts, "
+          f"{sum(bool(it[2]) for it in plain)} of them with readers")
 
 
 if __name__ == "__main__":

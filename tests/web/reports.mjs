@@ -4,7 +4,7 @@
  *
  *     node tests/web/reports.mjs MODULE <SCRIPTS
  *
- * A line of SCRIPTS is a script in base64. A line of the output is a list in JSON for it: the exit
+ * A line of SCRIPTS is a script in base64, and after a space may be its readers. A line of the output is a list in JSON for it: the exit
  * status that tkcore would have, its output, its line of standard error, and for some scripts what
  * the page says of their reads, and what the cursor shows at some places. For each of these places
  * there is a script whose last lines are these reads.
@@ -14,6 +14,7 @@ import readline from 'node:readline';
 import { Curves } from '../../examples/web/curves.js';
 import { Library } from '../../examples/web/library.js';
 import { Fault, recordsOf } from '../../examples/web/records.js';
+import { Readers } from '../../examples/web/readers.js';
 import { Script, timeText, utcText } from '../../examples/web/report.js';
 
 const module = new WebAssembly.Module(fs.readFileSync(process.argv[2]));
@@ -52,14 +53,16 @@ function cursorsOf(curves, script, bytes, first) {
         cursorAt(curves, records, first, BigInt(Math.floor(end * part))));
 }
 
-function reportOf(bytes, isDrawn) {
+function reportOf(bytes, readers, isDrawn) {
     try {
         const library = new Library(module), curves = isDrawn ? new Curves(library) : null;
         const script = new Script(library, bytes, curves);
+        if (isDrawn && readers !== undefined)
+            curves.readers = new Readers(readers.toString(), script.rows);
         const first = library.lastOf(script.clocks.snapshot), lines = script.run().flat();
         const isDifferent = lines.some(line => line.startsWith('differs,'));
         return [isDifferent ? 3 : 0, lines.map(line => `${line}\n`).join(''), '',
-            isDrawn ? { reads: curves.allReads.lines(),
+            isDrawn ? { reads: curves.readLines(),
                 cursors: cursorsOf(curves, script, bytes, first) } : null];
     } catch (fault) {
         if (!(fault instanceof Fault))
@@ -69,6 +72,7 @@ function reportOf(bytes, isDrawn) {
 }
 
 let number = 0;
-for await (const line of readline.createInterface({ input: process.stdin }))
-    console.log(JSON.stringify(
-        reportOf(Buffer.from(line, 'base64'), number++ % DRAWN_EVERY === 0)));
+for await (const line of readline.createInterface({ input: process.stdin })) {
+    const [bytes, readers] = line.split(' ').map(text => Buffer.from(text, 'base64'));
+    console.log(JSON.stringify(reportOf(bytes, readers, number++ % DRAWN_EVERY === 0)));
+}

@@ -7,11 +7,13 @@ import tempfile
 
 import rattle
 
-from . import manifest
+from . import manifest, sources
 
 MACHINES = ("x86_64", "aarch64")
 TOOLS = ("c/text", "c/placed.py", "c/unwind/*.py", "release_text/*.py")  # what shapes a text
 LINKING = ("c/module",)  # what shapes a module
+# the crate of each part, and the tools besides
+SOURCES = {"library": ("tk_c", TOOLS), "program": ("tkcore", TOOLS), "module": ("tk_c", LINKING)}
 COMPILERS = ("bin/rattle", "toolchain/bin/clang", "toolchain/bin/llvm-ar")
 PROGRAM = "x86_64/program.s.gz"
 
@@ -27,15 +29,25 @@ def run(*command):
     return ran.stdout
 
 
-def sources(crates, tools=TOOLS):
-    """Returns a line with the sum of all sums of what a text is made from."""
-    top = rattle.ROOT
-    found = [it for crate in crates for part in rattle.PARTS
-             for it in (crate.folder / part).rglob("*") if it.is_file()]
-    found += [it for name in tools for it in (top / "tools").glob(name)]
-    lines = sorted(manifest.line_of(it, it.relative_to(top).as_posix()) for it in found)
-    total = manifest.sum_of("".join(f"{line}\n" for line in lines).encode())
-    return f"sources: {total} of {len(lines)} files"
+def sources_of(part):
+    """Returns the names of the files that a part is made from."""
+    name, tools = SOURCES[part]
+    crate = rattle.crates()[name]
+    return sources.found([*crate.below, crate], tools)
+
+
+def all_sources(parts):
+    """Returns the lines of the MANIFEST on the files that these parts are made from."""
+    return sources.lines({name for part in parts for name in sources_of(part)})
+
+
+def different_sources(parts):
+    """Returns the names of the files that aren't those of the MANIFEST with these parts, and in
+    brackets those of the parts that were made from others."""
+    made = [part for part in parts if part != sources.PART]
+    names = {name for part in made for name in sources_of(part)}
+    return [*sources.differences(parts.get(sources.PART, []), names),
+            *(f"[{part}]" for part in made if sources.total(sources_of(part)) not in parts[part])]
 
 
 def verdict_of(crate, status, said):
@@ -50,8 +62,9 @@ def prove_below(crate, libraries):
         raise Failed(f"not all crates below {crate.name} are proved")
 
 
-def begun(crate, libraries, tools=TOOLS, maker=("gas", "as")):
-    """Proves the crates below one. Returns the first lines of its part."""
+def begun(part, libraries, maker=("gas", "as")):
+    """Proves the crates below that of a part. Returns the part's first lines."""
+    crate = rattle.crates()[SOURCES[part][0]]
     prove_below(crate, libraries)
     if unknown := [it.name for it in crate.below if not it.verdict(libraries).exists()]:
         raise Failed(f"{libraries} has no verdicts of {' '.join(unknown)}")
@@ -61,13 +74,13 @@ def begun(crate, libraries, tools=TOOLS, maker=("gas", "as")):
     name, program = maker
     version = run(program, "--version").decode().splitlines()[0]
     return [f"kit: {rattle.rt('version')}", *kit, f"{name}: {version}",
-            sources([*crate.below, crate], tools), *verdicts]
+            sources.total(sources_of(part)), *verdicts]
 
 
 def library(libraries, out):
     """Writes the library's text for each machine, and returns the lines of its part."""
     crate = rattle.crates()["tk_c"]
-    lines, texts = begun(crate, libraries), []
+    lines, texts = begun("library", libraries), []
     for machine in MACHINES:
         text = out / machine / "tkcore.s"
         text.parent.mkdir(parents=True, exist_ok=True)
@@ -99,7 +112,7 @@ def release_text(*words):
 def program(libraries, out):
     """Writes the program's text, compressed, and returns the lines of its part."""
     crate = rattle.crates()["tkcore"]
-    lines = begun(crate, libraries)
+    lines = begun("program", libraries)
     with tempfile.TemporaryDirectory() as room:
         made = pathlib.Path(room, "tkcore.o")
         lines.append(f"{crate.name}: {compiled_program(libraries, made)}")
@@ -129,7 +142,7 @@ def differences_of_program(libraries, packed):
 def module(libraries, out):
     """Writes the library's modules, and returns the lines of their part."""
     crate = rattle.crates()["tk_c"]
-    lines = begun(crate, libraries, LINKING, ("binaryen", "wasm-opt"))
+    lines = begun("module", libraries, ("binaryen", "wasm-opt"))
     with tempfile.TemporaryDirectory() as room:
         archive = pathlib.Path(room, "libtk_c.a")
         built = crate.archive(libraries, "llvm", "wasm64-unknown-unknown", archive)

@@ -8,7 +8,8 @@
  *     ask READING MODES OFFSET FREQ STATUS CONSTANT TICK
  *     counter READING BITS MULT SHIFT FIRST        tk_change_counter()
  *
- * The answer is a line with the code, and the saved words but the first, which is the front.
+ * The answer is a line with the code, the saved words but the first, which is the front, and the
+ * leap seconds that have been logged: those inserted and those deleted.
  */
 #include <inttypes.h>
 #include <stdio.h>
@@ -17,21 +18,21 @@
 
 typedef uint64_t u64;
 typedef int64_t s64;
+typedef int32_t s32;
 typedef uint32_t u32;
 
-#define TK_SSE(call) (call)
-#define IS_ENABLED(option) 0
-
 static struct tkc_ntp tk_state;
+static struct { struct { s32 tai_offset; } timekeeper; } tk_core;
+static int inserted, deleted;
+
+#define IS_ENABLED(option) 0
+#define KERN_NOTICE ""
+#define printk_deferred(text) \
+	(inserted += !!strstr(text, "inserting"), deleted += !!strstr(text, "deleting"))
 
 static enum tkc_code tk_check(enum tkc_code code)
 {
 	return code;
-}
-
-static void tk_save(u64 words[TKC_NTP_SAVED_WORDS], const struct tkc_ntp *state)
-{
-	tkc_ntp_save(words, state);
 }
 
 #include "../tkcore/late.h"
@@ -73,7 +74,8 @@ int main(void)
 		tkc_ntp_save(words, &tk_state);
 		for (int i = 1; i < TKC_NTP_SAVED_WORDS; i++)
 			printf(" %" PRIu64, words[i]);
-		printf("\n");
+		printf(" %d %d\n", inserted, deleted);
+		tk_core.timekeeper.tai_offset = words[7] >> 1;
 	}
 	return 0;
 }

@@ -5,7 +5,8 @@
     ports/linux/tests/late.py DIST [COUNT [SEED]]     COUNT is the number of orders (20,000)
 
 The definition is advance_late of tests/model/steered_clock.py. All saved words must be equal except
-the front. It ends with status 1 at the first difference, or if too few seconds began late.
+the front, and each leap second must be logged. It ends with status 1 at the first difference, or if
+too few seconds began late.
 """
 import pathlib
 import random
@@ -30,7 +31,7 @@ def build(dist, folder):
     """Compiles late.c against the library, and returns the program."""
     program = folder / "late"
     subprocess.run(["gcc", "-O1", "-Wall", "-Wextra", "-Wno-sign-compare", "-I", dist / "include",
-                    HERE / "late.c", dist / "lib/libtkcore.a", "-o", program], check=True)
+                    HERE / "late.c", dist / "lib/libtkcore_kernel_sse.a", "-o", program], check=True)
     return program
 
 
@@ -39,7 +40,7 @@ class Orders:
 
     def __init__(self, seed):
         self.random = random.Random(seed)
-        self.steered, self.late, self.leaps = None, 0, 0
+        self.steered, self.late, self.logged = None, 0, {1: 0, -1: 0, 0: 0}
 
     def open(self):
         bits, mult, shift = self.random.choice(COUNTERS)
@@ -65,14 +66,14 @@ class Orders:
             self.late += due not in (None, reading)
             tai = self.steered.clock.tai
             self.steered.advance_late(reading)
-            self.leaps += self.steered.clock.tai != tai
+            self.logged[self.steered.clock.tai - tai] += 1
             self.steered.apply(reading, "update")
         return f"forward {reading}", follow
 
     def command(self):
         word = self.random.choice(list(COMMANDS))
         real = self.steered.clock.value("realtime", self.steered.clock.last)
-        sec = {"update": 0, "set": (real // DAY // NANOS + 1) * DAY - 2,
+        sec = {"update": 0, "set": (real // DAY // NANOS + 1) * DAY - self.random.choice([2, 4]),
                "step": self.random.randrange(-5, 5)}[word]
         nsec, reading = self.random.randrange(NANOS), self.steered.clock.last
         fields = () if word == "update" else (sec, nsec)
@@ -81,7 +82,7 @@ class Orders:
 
     def ask(self):
         modes = self.random.choice([FREQUENCY, TICK, STATUS, OFFSET | STATUS | NANO])
-        status = self.random.choice([0, STA_PLL, STA_PLL | STA_INS, STA_PLL | STA_DEL, STA_INS])
+        status = self.random.choice([0, STA_PLL, STA_PLL | STA_INS, STA_PLL | STA_DEL, STA_INS, STA_DEL])
         offset, freq = self.random.randrange(-10**8, 10**8), self.random.randrange(-2**25, 2**25)
         constant, tick = self.random.randrange(11), self.random.randrange(9_000, 11_001)
         reading = self.steered.clock.last
@@ -100,7 +101,8 @@ class Orders:
             is_done = True
         except Refused:
             is_done = False
-        return order, is_done, [str(it) for it in self.steered.saved()[1:]]
+        leaps = self.logged[1], self.logged[-1]
+        return order, is_done, [str(it) for it in (*self.steered.saved()[1:], *leaps)]
 
 
 def main():
@@ -117,9 +119,10 @@ def main():
         code, *got = line.split()
         if (code == "0") != is_done or got != words:
             sys.exit(f"late: after {order!r} (seed {seed}) code {code}, words\n{got}\n{words}")
-    if orders.late < count // 20 or orders.leaps < count // 2000:
-        sys.exit(f"late: only {orders.late} seconds began late, with {orders.leaps} leaps")
-    print(f"late: {count} orders, {orders.late} late seconds, {orders.leaps} leaps: equal words")
+    leaps = orders.logged[1] + orders.logged[-1]
+    if orders.late < count // 20 or leaps < count // 2000 or 0 in orders.logged.values():
+        sys.exit(f"late: only {orders.late} seconds began late, with {leaps} leaps")
+    print(f"late: {count} orders, {orders.late} late seconds, {leaps} leaps: equal words")
     return 0
 
 

@@ -6,6 +6,12 @@
 #include "process.h"
 #include <linux/ktime.h>
 
+#ifdef TKC_CONTROL	/* only the port */
+#define TICK_ADJ_SETUP tk_tick_adj_setup
+#else
+#define TICK_ADJ_SETUP ntp_tick_adj_setup
+#endif
+
 #include "kernel/time/ntp.c"
 #include "kernel/time/timekeeping.c"
 
@@ -25,6 +31,10 @@ static u64 read_other(struct clocksource *clock)
 static struct clocksource counters[2] = { { .read = read_counter }, { .read = read_other } };
 
 int kernel_warnings;
+struct process_log process_log;
+s64 process_tick_adj;
+s64 process_wall;
+u64 process_uptime;
 u64 jiffies_64;
 struct timezone sys_tz;
 
@@ -75,11 +85,26 @@ static void describe(struct clocksource *counter, u32 bits, u32 mult, u32 shift)
 	counter->max_idle_ns = ~0ULL;
 }
 
-void process_boot(u32 bits, u32 mult, u32 shift, u64 reading)
+/*
+ * Boots with a parameter ntp_tick_adj=, at a second of REALTIME that the persistent clock has, some
+ * time after the machine started.
+ */
+void process_boot(u32 bits, u32 mult, u32 shift, u64 reading, s64 tick_adj, s64 wall, u64 uptime)
 {
 	describe(&counters[0], bits, mult, shift);
 	now = reading;
+	process_tick_adj = tick_adj;
+	process_wall = wall;
+	process_uptime = uptime;
+	TICK_ADJ_SETUP("");
 	timekeeping_init();
+}
+
+/* Returns what the calls since the last question have logged. */
+void process_logged(struct process_log *out)
+{
+	*out = process_log;
+	memset(&process_log, 0, sizeof(process_log));
 }
 
 /* Goes on with the other counter. */
@@ -151,6 +176,11 @@ s64 process_time(u32 clock, u64 reading)
 int process_status(void)
 {
 	return timekeeping_ntp_status();
+}
+
+s64 process_max_deferment(void)
+{
+	return timekeeping_max_deferment();
 }
 
 /* Returns the MONOTONIC of the coming inserted second. */

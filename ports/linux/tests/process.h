@@ -3,6 +3,7 @@
  * What the port uses of the kernel beyond tests/kernel_ntp/linux.h, in a process.
  */
 #include <stdio.h>
+#include <string.h>
 #include "linux.h"
 
 #define CLOCK_SET_BOOT 2
@@ -19,6 +20,44 @@
 #define WARN_ONCE(x, text, ...) \
 	(WARN_ON(x) ? (void)fprintf(stderr, text, __VA_ARGS__) : (void)0)
 #define BUILD_BUG_ON(x) _Static_assert(!(x), #x)
+
+#define div_s64(a, b) ((s64)(a) / (s32)(b))
+#define KERN_NOTICE ""
+
+/* What calls have logged: audit records, the times that REALTIME was moved by, and leap seconds. */
+enum { AUDIT_NTP_OFFSET, AUDIT_NTP_FREQ, AUDIT_NTP_STATUS, AUDIT_NTP_TAI, AUDIT_NTP_TICK,
+       AUDIT_NTP_ADJUST, AUDIT_NTP_NVALS };
+struct process_log {
+	s64 old[AUDIT_NTP_NVALS], new[AUDIT_NTP_NVALS], records, moved_sec, moved_nsec, moves;
+	s64 inserted, deleted;
+};
+extern struct process_log process_log;
+
+#undef audit_ntp_init
+#undef audit_ntp_set_old
+#undef audit_ntp_set_new
+#undef audit_ntp_log
+#undef audit_tk_injoffset
+#undef printk_deferred
+#define audit_dummy_context() false
+#define audit_ntp_init(ad) ((ad)->none = 0)
+#define audit_ntp_set_old(ad, type, value) ((void)(ad), process_log.old[type] = (value))
+#define audit_ntp_set_new(ad, type, value) ((void)(ad), process_log.new[type] = (value))
+#define audit_ntp_log(ad) ((void)(ad), process_log.records++)
+#define audit_tk_injoffset(offset) (process_log.moves++, \
+	process_log.moved_sec = (offset).tv_sec, process_log.moved_nsec = (offset).tv_nsec)
+#define printk_deferred(text) (process_log.inserted += !!strstr(text, "inserting"), \
+	process_log.deleted += !!strstr(text, "deleting"))
+
+/* ntp_tick_adj= may have any number. */
+extern s64 process_tick_adj;
+#undef kstrtos64
+#define kstrtos64(text, base, out) ((void)(text), *(out) = process_tick_adj, 0)
+
+/* The time since the machine started, when the clocks are opened. */
+extern u64 process_uptime;
+#undef local_clock
+#define local_clock() process_uptime
 
 /* (kernel/time/timekeeping.h) */
 extern int timekeeping_suspend(void);

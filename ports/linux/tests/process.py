@@ -11,8 +11,11 @@ calls:
   - all clocks of the port, also by the reads for an NMI, with the definitions of tests/model: equal
   - the errno of wrong arguments of adjtimex(2) and settimeofday(2) with the unmodified kernel's:
     equal
+  - their audit records, and the number of their log lines of leap seconds: equal
+  - what seconds gain with ntp_tick_adj=: equal but for the unmodified kernel's rounding
   - a TAI offset that puts TAI past the limit of all clocks: EINVAL, where the unmodified kernel has
     no limit
+  - MONOTONIC with the times that the frequencies say, with ticks as rare as the port allows
   - MONOTONIC at the reading of a tick, before and after the tick: it goes back at no tick of the
     port, and does with -DTKC_CONTROL
 
@@ -36,16 +39,15 @@ import kernel  # noqa: E402
 from kernel import Timex  # noqa: E402
 from late import Orders  # noqa: E402
 from model import NANOS, Counter  # noqa: E402
-from ntp import (NANO, OFFSET, STA_INS, STA_PLL, STATUS,  # noqa: E402
-                 Timex as Request)
+from ntp import Timex as Request  # noqa: E402
+from single import compare_tick_adj, pass_limit, swing, ticks_back  # noqa: E402
 from steered_clock import Refused, Steered  # noqa: E402
-from wrong_calls import Wrong, u64  # noqa: E402
+from wrong_calls import Wrong, s64, u64  # noqa: E402
 
 HZ = 250
 STATES = "Ok", "Ins", "Del", "Oop", "Wait", "Error"
 EINVAL = -22
-ADJ_TAI = 0x80
-SETTABLE, LIMIT = 8277292036, 9223372036  # TIME_SETTOD_SEC_MAX, KTIME_SEC_MAX
+SWING_NS = 100  # that MONOTONIC may be off by between rare ticks
 OTHER = 0x123456789abcd  # by how much the other counter's readings are ahead
 COUNTERS = [(64, 8388608, 23), (64, 16777216, 24), (56, 174762667, 22), (32, 3495253333, 26)]
 
@@ -56,12 +58,12 @@ def compile_one(folder, name, dist, *flags):
     paths = [f"-I{it}" for it in (TOP / "tests/kernel_ntp", folder / "stand-ins", folder,
                                   folder / "include", folder / "include/uapi")]
     subprocess.run(["gcc", *kernel.FLAGS, f"-DHZ={HZ}", f"-DOTHER={OTHER}ULL", *flags, *paths,
-                    HERE / "process.c", "-o", out, *([dist / "lib/libtkcore.a"] if dist else [])],
+                    HERE / "process.c", HERE / "persistent.c", "-o", out, *([dist / "lib/libtkcore_kernel_sse.a"] if dist else [])],
                    check=True)
     calls = ctypes.CDLL(str(out))
     calls.process_time.restype = ctypes.c_int64
     if dist:
-        calls.process_leap.restype = ctypes.c_int64
+        calls.process_leap.restype = calls.process_max_deferment.restype = ctypes.c_int64
     return calls
 
 
@@ -98,8 +100,10 @@ class Timeline(Orders):
         self.calls, self.kinds, self.ahead = calls, {}, 0
         self.numbers = self.random.choice(COUNTERS)
         start = self.random.randrange(2**min(self.numbers[0], 60))
-        calls.process_boot(*self.numbers, u64(start))
-        self.steered = Steered(finer(*self.numbers), start, 0, HZ)
+        self.uptime = self.random.randrange(5 * NANOS)
+        wall = self.random.randrange(10, 10**9)
+        calls.process_boot(*self.numbers, u64(start), s64(0), s64(wall), u64(self.uptime))
+        self.steered = Steered(finer(*self.numbers), start, wall * NANOS, HZ, self.uptime)
 
     def at(self, reading):
         """The reading of the first counter at a reading of the present one."""
@@ -191,7 +195,7 @@ class Timeline(Orders):
                   200: clock.value("realtime", clock.last) // NANOS,
                   201: clock.value("monotonic", clock.last) // NANOS}
         raw = clock.raw_amount + clock.cycles(reading) * clock.counter.mult
-        values[4] = raw >> clock.counter.shift
+        values[4] = (raw >> clock.counter.shift) - self.uptime
         if fast:
             values.update({100: values[0], 101: values[1], 104: values[4]})
         else:
@@ -199,10 +203,9 @@ class Timeline(Orders):
         for number, value in values.items():
             got = self.calls.process_time(number, self.at(reading))
             self.expect(got, value, f"clock {number} at {reading}")
-        ntp, leap = self.steered.ntp, 2**63 - 1
-        if ntp.state == "Ins" and ntp.status & STA_INS and ntp.due:
-            leap = ntp.due * NANOS - clock.real_offset
-        self.expect(self.calls.process_status(), ntp.status, "status")
+        self.expect(self.calls.process_status(), self.steered.ntp.status, "status")
+        by, second = self.steered.coming_leap()
+        leap = second * NANOS - clock.real_offset if by == -1 else 2**63 - 1
         self.expect(self.calls.process_leap(), leap, "leap")
 
     def step(self):
@@ -214,32 +217,6 @@ class Timeline(Orders):
         clock = self.steered.clock
         later = (self.random.randrange(10**9) << clock.counter.shift) // clock.counter.mult
         self.compare((clock.last + later) % 2**clock.counter.bits)
-
-
-def pass_limit(calls):
-    """Returns the answer to a TAI offset of 37 s, with REALTIME 12 s below the limit of clocks."""
-    calls.process_boot(64, 8388608, 23, u64(0))
-    calls.process_settime(ctypes.c_int64(SETTABLE - 1), ctypes.c_int64(0), u64(10**7))
-    calls.process_suspend(u64(2 * 10**7))
-    calls.process_resume(u64((LIMIT - 11 - SETTABLE) * NANOS), u64(3 * 10**7))
-    request = Timex.of(modes=ADJ_TAI, constant=37)
-    return calls.process_adjtimex(ctypes.byref(request), u64(4 * 10**7))
-
-
-def ticks_back(calls):
-    """Returns how many of 2,000 ticks let MONOTONIC go back, while offsets change the rate."""
-    calls.process_boot(64, 8388608, 23, u64(0))
-    back = 0
-    for number in range(1, 2001):
-        reading = number * 7 * 10**6
-        before = calls.process_time(1, u64(reading))
-        calls.process_tick(u64(reading))
-        back += calls.process_time(1, u64(reading)) < before
-        if number % 300 == 1:
-            request = Timex.of(modes=OFFSET | STATUS | NANO, status=STA_PLL,
-                               offset=10**8 if number % 600 == 1 else -10**8)
-            calls.process_adjtimex(ctypes.byref(request), u64(reading))
-    return back
 
 
 def main():
@@ -254,17 +231,21 @@ def main():
         timeline = Timeline(seed, port)
         for _ in range(count):
             timeline.step()
+        compare_tick_adj(unmodified, port)
         limits = pass_limit(unmodified) >= 0, pass_limit(port)
-        backs = ticks_back(port), ticks_back(control)
+        backs, off = (ticks_back(port), ticks_back(control)), swing(port)
         warned = ctypes.c_int.in_dll(port, "kernel_warnings").value
     if limits != (True, EINVAL):
         sys.exit(f"process: at the limit, the answers are {limits}")
     if backs[0] or not backs[1]:
         sys.exit(f"process: MONOTONIC goes back at {backs[0]} ticks, and {backs[1]} of the control")
+    if off > SWING_NS:
+        sys.exit(f"process: MONOTONIC is off by {off} ns, with ticks as far apart as they may be")
     if warned:
         sys.exit(f"process: the port warned {warned} times")
     kinds = ", ".join(f"{number} of {kind}" for kind, number in timeline.kinds.items())
-    print(f"process: {wrong.refused} wrong calls have the errno of the unmodified kernel")
+    print(f"process: {wrong.refused} wrong calls have the errno of the unmodified kernel, and "
+          f"{wrong.changes} audit records are equal")
     print(f"process: {kinds}: all clocks are those of the definitions")
     print(f"process: MONOTONIC goes back at no tick, and at {backs[1]} of the control")
     return 0

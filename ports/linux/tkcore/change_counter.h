@@ -11,7 +11,7 @@ static enum tkc_code tk_change_counter(u64 now, const struct tkc_counter *counte
 	struct tkc_clock clocks;
 	enum tkc_code code;
 
-	tk_save(words, &tk_state);
+	tkc_ntp_save(words, &tk_state);
 	code = tkc_clock_load(&clocks, words);
 	if (!code)
 		code = tkc_clock_change_counter(&clocks, now, counter, first);
@@ -19,5 +19,5 @@ static enum tkc_code tk_change_counter(u64 now, const struct tkc_counter *counte
 		return code;
 	tkc_clock_save(words, &clocks);
 	words[32] = first;	/* the reading up to which the lag is accounted for */
-	return TK_SSE(tkc_ntp_load(&tk_state, words));
+	return tkc_ntp_load(&tk_state, words);
 }

@@ -52,6 +52,22 @@ static void tk_fill_mono(struct timekeeper *tk, const u64 words[TKC_WORDS])
 	WRITE_ONCE(tk->ktime_sec, words[4]);
 }
 
+/* Sets MONOTONIC_RAW, which the library starts where MONOTONIC starts. */
+static void tk_fill_raw(struct timekeeper *tk, const u64 words[TKC_WORDS])
+{
+	u64 frac = words[8], from = (u64)tk_raw_from.tv_nsec << tk->tkr_raw.shift;
+	time64_t sec = words[9] - tk_raw_from.tv_sec;
+
+	if (frac < from) {
+		frac += (u64)NSEC_PER_SEC << tk->tkr_raw.shift;
+		sec--;
+	}
+	tk->tkr_raw.cycle_last = words[1];
+	tk->tkr_raw.xtime_nsec = frac - from;
+	tk->tkr_raw.base = ktime_set(sec, 0);
+	tk->raw_sec = sec;
+}
+
 /* Sets the timekeeper to a snapshot of tk_state. Returns whether REALTIME or TAI was set. */
 static bool tk_fill(struct timekeeper *tk)
 {
@@ -63,9 +79,6 @@ static bool tk_fill(struct timekeeper *tk)
 	tkc_snapshot_words(words, &snapshot);
 	set = tk_fill_offsets(tk, words);
 	tk_fill_mono(tk, words);
-	tk->tkr_raw.cycle_last = words[1];
-	tk->tkr_raw.xtime_nsec = words[8];
-	tk->tkr_raw.base = ktime_set(words[9], 0);
-	tk->raw_sec = words[9];
+	tk_fill_raw(tk, words);
 	return set;
 }

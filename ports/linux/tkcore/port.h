@@ -21,6 +21,9 @@ static struct tkc_ntp tk_state;
 /* The status bits of the discipline (STA_UNSYNC ..), for a reader without the lock. */
 static u32 tk_status = STA_UNSYNC;
 
+/* What MONOTONIC was when the clocks were opened. MONOTONIC_RAW starts at 0 there. */
+static struct timespec64 tk_raw_from;
+
 static bool timekeeping_advance(enum timekeeping_adv_mode mode);
 static int timekeeping_inject_offset(const struct timespec64 *ts);
 static int change_clocksource(void *data);

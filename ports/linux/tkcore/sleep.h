@@ -20,14 +20,13 @@ void timekeeping_inject_sleeptime64(const struct timespec64 *delta)
 
 	suspend_timing_needed = false;
 	if (!tk_check(tk_command(now, TKC_CMD_SUSPEND, 0, 0))) {
-		if (TK_SSE(tkc_ntp_apply(&tk_state, now, TKC_CMD_RESUME, delta->tv_sec,
-					 delta->tv_nsec))) {
+		if (tkc_ntp_apply(&tk_state, now, TKC_CMD_RESUME, delta->tv_sec, delta->tv_nsec)) {
 			printk_deferred(KERN_WARNING "timekeeping: a sleep is out of range\n");
-			tk_check(TK_SSE(tkc_ntp_apply(&tk_state, now, TKC_CMD_RESUME, 0, 0)));
+			tk_check(tkc_ntp_apply(&tk_state, now, TKC_CMD_RESUME, 0, 0));
 		} else {
 			tk_debug_account_sleep_time(delta);
 		}
-		tk_check(TK_SSE(tkc_ntp_apply(&tk_state, now, TKC_CMD_STEP, 0, 0)));
+		tk_check(tkc_ntp_apply(&tk_state, now, TKC_CMD_STEP, 0, 0));
 	}
 	tk_end(flags, TK_CLOCK_WAS_SET);
 	clock_was_set(CLOCK_SET_WALL | CLOCK_SET_BOOT);
@@ -59,6 +58,7 @@ void timekeeping_resume(void)
 	clocksource_resume();
 
 	raw_spin_lock_irqsave(&timekeeper_lock, flags);
+	tk_sse_save();
 	write_seqcount_begin(&tk_core.seq);
 	now = tk_clock_read(tkr) & tkr->mask;
 	slept = tk_sleep_time(now, &persistent);
@@ -66,8 +66,7 @@ void timekeeping_resume(void)
 		suspend_timing_needed = false;
 		tk_debug_account_sleep_time(&slept);
 	}
-	tk_check(TK_SSE(tkc_ntp_apply(&tk_state, now, TKC_CMD_RESUME, slept.tv_sec,
-				      slept.tv_nsec)));
+	tk_check(tkc_ntp_apply(&tk_state, now, TKC_CMD_RESUME, slept.tv_sec, slept.tv_nsec));
 	timekeeping_suspended = 0;
 	tk_end(flags, TK_CLOCK_WAS_SET);
 
@@ -113,6 +112,7 @@ int timekeeping_suspend(void)
 		tk_keep_difference(tk_xtime(tk));
 	halt_fast_timekeeper(tk);
 	write_seqcount_end(&tk_core.seq);
+	tk_sse_restore();
 	raw_spin_unlock_irqrestore(&timekeeper_lock, flags);
 
 	tick_suspend();

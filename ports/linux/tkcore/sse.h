@@ -1,11 +1,12 @@
 /* SPDX-License-Identifier: GPL-2.0 */
 /*
- * Until no call of libtkcore_kernel.a uses SSE registers: TK_SSE(call) saves them around a call on
- * steered clocks. Then TK_SSE(call) becomes the call, and this file goes.
+ * Calls of the library use SSE registers, and a tick may interrupt kernel_fpu_begin(), when the
+ * registers hold another's values. So each change saves them when it begins (tk_begin), and restores
+ * them when it ends.
  *
- * A tick may interrupt kernel_fpu_begin(), so the registers hold another's values. All such calls
- * are under timekeeper_lock with interrupts off, and none is made in an NMI, so one place to save
- * them is enough. The instructions of SSE leave the upper halves of the AVX registers unchanged.
+ * All calls are under timekeeper_lock with interrupts off, and none is made in an NMI, so one place
+ * to save them is enough. The instructions of SSE leave the upper halves of the AVX registers
+ * unchanged.
  */
 static u8 tk_xmm[16][16] __aligned(16);
 
@@ -17,22 +18,18 @@ static u8 tk_xmm[16][16] __aligned(16);
 	move(15);								\
 } while (0)
 
-#define TK_SSE(call) ({								\
-	enum tkc_code code_;							\
-										\
-	TK_XMM_EACH(TK_XMM_SAVE);						\
-	code_ = (call);								\
-	TK_XMM_EACH(TK_XMM_LOAD);						\
-	code_;									\
-})
-
-/* Lets the kernel use SSE instructions before it has initialized the FPU. */
-static void tk_enable_sse(void)
+static void tk_sse_save(void)
 {
-	cr4_set_bits(X86_CR4_OSFXSR);
+	TK_XMM_EACH(TK_XMM_SAVE);
 }
 
-static void tk_save(u64 words[TKC_NTP_SAVED_WORDS], const struct tkc_ntp *state)
+static void tk_sse_restore(void)
 {
-	(void)TK_SSE(({ tkc_ntp_save(words, state); TKC_OK; }));
+	TK_XMM_EACH(TK_XMM_LOAD);
+}
+
+/* Lets the kernel use SSE instructions before it has initialized the FPU. */
+static void tk_sse_enable(void)
+{
+	cr4_set_bits(X86_CR4_OSFXSR);
 }

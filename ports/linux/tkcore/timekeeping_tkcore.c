@@ -26,6 +26,7 @@ static u64 tk_begin(unsigned long *flags)
 	u64 now;
 
 	raw_spin_lock_irqsave(&timekeeper_lock, *flags);
+	tk_sse_save();
 	write_seqcount_begin(&tk_core.seq);
 	smp_mb();
 	now = tk_clock_read(tkr) & tkr->mask;
@@ -62,6 +63,7 @@ static bool tk_end(unsigned long flags, unsigned int action)
 	bool was_set = timekeeping_update(&tk_core.timekeeper, action);
 
 	write_seqcount_end(&tk_core.seq);
+	tk_sse_restore();
 	raw_spin_unlock_irqrestore(&timekeeper_lock, flags);
 	return was_set;
 }
@@ -71,10 +73,11 @@ static enum tkc_code tk_command(u64 now, u32 command, s64 sec, u32 nsec)
 {
 	enum tkc_code code = tk_forward(now);
 
-	return code ?: TK_SSE(tkc_ntp_apply(&tk_state, now, command, sec, nsec));
+	return code ?: tkc_ntp_apply(&tk_state, now, command, sec, nsec);
 }
 
 #include "clocksource.h"
+#include "request.h"
 
 /* do_settimeofday64 - sets REALTIME (TKC_CMD_SET_TIME) */
 int do_settimeofday64(const struct timespec64 *ts)
@@ -116,18 +119,16 @@ static int timekeeping_inject_offset(const struct timespec64 *ts)
 	return tk_errno(code);
 }
 
-/* timekeeping_max_deferment - how long a tick may be left out: half of what a reader can convert */
+/*
+ * timekeeping_max_deferment - how long a tick may be left out: a second
+ *
+ * A reader can convert 34 s and more. But a second makes up for what the last one lagged behind, at a
+ * rate for one second. Where that rate lasts for two seconds or longer, since no tick begins the next
+ * one, it makes up for twice the lag or more, and MONOTONIC swings by milliseconds.
+ */
 u64 timekeeping_max_deferment(void)
 {
-	const struct tk_read_base *tkr = &tk_core.timekeeper.tkr_mono;
-	unsigned int seq;
-	u64 most;
-
-	do {
-		seq = read_seqcount_begin(&tk_core.seq);
-		most = min(tkr->clock->max_idle_ns, U64_MAX >> (tkr->shift + 1));
-	} while (read_seqcount_retry(&tk_core.seq, seq));
-	return most;
+	return NSEC_PER_SEC;
 }
 
 /* Reads the persistent clock: REALTIME, and the time since the boot, which is never more. */
@@ -150,19 +151,24 @@ void __init timekeeping_init(void)
 	struct timespec64 wall, boot;
 	struct tkc_counter counter;
 	unsigned long flags;
+	u64 now;
 
 	tk_read_boot_times(&wall, &boot);
-	tk_enable_sse();
+	tk_raw_from = boot;
+	tk_sse_enable();
 	raw_spin_lock_irqsave(&timekeeper_lock, flags);
+	tk_sse_save();
 	write_seqcount_begin(&tk_core.seq);
 	ntp_init();
 	if (clock->enable)
 		clock->enable(clock);
 	tk_setup_internals(&tk_core.timekeeper, clock);
+	now = clock->read(clock) & clock->mask;
 	if (tk_counter(&counter, clock) ||
-	    TK_SSE(tkc_ntp_open_at(&tk_state, &counter, clock->read(clock) & clock->mask,
-				   wall.tv_sec, wall.tv_nsec, boot.tv_sec, boot.tv_nsec, HZ)))
+	    tkc_ntp_open_at(&tk_state, &counter, now, wall.tv_sec, wall.tv_nsec, boot.tv_sec,
+			    boot.tv_nsec, HZ))
 		panic("timekeeping: the clocks don't open\n");
+	tk_open_frequency(now);
 	tk_end(flags, TK_CLOCK_WAS_SET);
 }
 
@@ -203,28 +209,4 @@ static bool timekeeping_advance(enum timekeeping_adv_mode mode)
 int timekeeping_ntp_status(void)
 {
 	return READ_ONCE(tk_status);
-}
-
-/* do_adjtimex - answers a request of adjtimex(2) (tkc_adjtimex) */
-int do_adjtimex(struct __kernel_timex *txc)
-{
-	int state = timekeeping_validate_timex(txc);
-	enum tkc_code code;
-	unsigned long flags;
-	bool was_set;
-	u64 now;
-
-	BUILD_BUG_ON(sizeof(*txc) != sizeof(struct tkc_timex));
-	if (state)
-		return state;
-	add_device_randomness(txc, sizeof(*txc));
-	now = tk_begin(&flags);
-	code = tk_forward(now);
-	if (!code)
-		code = TK_SSE(tkc_adjtimex((struct tkc_timex *)txc, &state, &tk_state, now));
-	was_set = tk_end(flags, 0);
-	if (was_set)
-		clock_was_set(CLOCK_SET_WALL);
-	ntp_notify_cmos_timer();
-	return code ? tk_errno(code) : state;
 }

@@ -1,0 +1,162 @@
+/* SPDX-License-Identifier: MIT OR Apache-2.0 */
+/* calls_send.c - the calls that send datagrams. */
+#define _GNU_SOURCE
+#include "net.h"
+#include "clocks/host.h"
+
+#include <string.h>
+#include <sys/syscall.h>
+#include <sys/uio.h>
+#include <unistd.h>
+
+/* The parts of a message that the kernel takes, without two that tkrun needs. */
+enum { TEXTS_MOST = UIO_MAXIOV - 2 };
+
+/* Returns the address of a node to which a socket of UDP sends a message, or 0. */
+static uint32_t receiver_of(int file, const struct msghdr *message)
+{
+	struct sockaddr_storage peer;
+	socklen_t length = sizeof(peer);
+
+	if (!net_peers() || net_type(file) != SOCK_DGRAM)
+		return 0;
+	if (message->msg_name)
+		return net_address(message->msg_name, message->msg_namelen);
+	if (host_call(SYS_getpeername, file, (long)&peer, (long)&length, 0, 0, 0))
+		return 0;
+	return net_address((struct sockaddr *)&peer, length);
+}
+
+/* Returns the bytes of a message, which may overflow if they aren't there. */
+static size_t length_of(const struct msghdr *message)
+{
+	size_t length = 0;
+
+	for (size_t i = 0; i < message->msg_iovlen && i < TEXTS_MOST && length <= DATAGRAM_MOST; i++)
+		length += message->msg_iov[i].iov_len;
+	return length;
+}
+
+/* Returns the error that an earlier datagram has met, or 0. */
+static int pending_error(int file)
+{
+	socklen_t length = sizeof(int);
+	int error = 0;
+
+	host_call(SYS_getsockopt, file, SOL_SOCKET, SO_ERROR, (long)&error, (long)&length, 0);
+	return error;
+}
+
+/* Hands a datagram to tkrun. Returns its bytes, or minus an error. */
+static ssize_t hand_over(int file, const struct msghdr *content, uint32_t address)
+{
+	struct message message = { .kind = MESSAGE_DATAGRAM, .node = net_node(), .address = address };
+	size_t length = length_of(content);
+	int error = pending_error(file);
+
+	if (error)
+		return -error;
+	if (length > DATAGRAM_MOST || content->msg_iovlen > TEXTS_MOST)
+		return -EMSGSIZE;
+	if (content->msg_control && content->msg_controllen > CONTROL_MOST)
+		return -ENOBUFS;
+	message.control_length = content->msg_control ? (uint32_t)content->msg_controllen : 0;
+	if (content->msg_name) {
+		message.to_length = content->msg_namelen < sizeof(message.to)
+					    ? content->msg_namelen
+					    : sizeof(message.to);
+		memcpy(&message.to, content->msg_name, message.to_length);
+	}
+	net_bind(file, 0);
+	error = net_hand_over(&message, content, &file, 1);
+	return error ? -error : (ssize_t)length;
+}
+
+/* Sends a message, if it is one to another node. Returns false if it isn't. It leaves errno, unless
+ * that fails. */
+static bool send_over(int file, const struct msghdr *message, int flags, ssize_t *result)
+{
+	uint32_t address = flags & MSG_OOB ? 0 : receiver_of(file, message);
+
+	if (!address)
+		return false;
+	*result = hand_over(file, message, address);
+	if (*result < 0)
+		*result = net_refuse((int)-*result);
+	return true;
+}
+
+EXPORT ssize_t sendmsg(int file, const struct msghdr *message, int flags)
+{
+	ssize_t result;
+
+	if (net_peers() && send_over(file, message, flags, &result))
+		return result;
+	return REAL(sendmsg)(file, message, flags);
+}
+
+EXPORT int sendmmsg(int file, struct mmsghdr *messages, unsigned int count, int flags)
+{
+	ssize_t result;
+
+	for (unsigned int i = 0; i < count; i++) {
+		if (!net_peers() || !send_over(file, &messages[i].msg_hdr, flags, &result))
+			result = REAL(sendmsg)(file, &messages[i].msg_hdr, flags);
+		if (result < 0)
+			return i ? (int)i : -1;
+		messages[i].msg_len = (unsigned int)result;
+	}
+	return (int)count;
+}
+
+/* Programs that wait for an answer to their first packet of TCP connect without it. */
+EXPORT ssize_t sendto(int file, const void *bytes, size_t length, int flags,
+		      __CONST_SOCKADDR_ARG to, socklen_t to_length)
+{
+	const struct sockaddr *name = to.__sockaddr__;
+	struct iovec text = { (void *)bytes, length };
+	struct msghdr message = { .msg_name = (void *)name,
+				  .msg_namelen = name ? to_length : 0,
+				  .msg_iov = &text,
+				  .msg_iovlen = 1 };
+	ssize_t result;
+
+	if (flags & MSG_FASTOPEN && net_address(name, to_length))
+		return net_refuse(EOPNOTSUPP);
+	if (net_peers() && send_over(file, &message, flags, &result))
+		return result;
+	return REAL(sendto)(file, bytes, length, flags, to, to_length);
+}
+
+EXPORT ssize_t send(int file, const void *bytes, size_t length, int flags)
+{
+	struct iovec text = { (void *)bytes, length };
+	const struct msghdr message = { .msg_iov = &text, .msg_iovlen = 1 };
+	ssize_t result;
+
+	if (net_peers() && send_over(file, &message, flags, &result))
+		return result;
+	return REAL(send)(file, bytes, length, flags);
+}
+
+EXPORT ssize_t write(int file, const void *bytes, size_t length)
+{
+	struct iovec text = { (void *)bytes, length };
+	const struct msghdr message = { .msg_iov = &text, .msg_iovlen = 1 };
+	ssize_t result;
+
+	if (net_peers() && send_over(file, &message, 0, &result))
+		return result;
+	return REAL(write)(file, bytes, length);
+}
+
+EXPORT ssize_t writev(int file, const struct iovec *texts, int count)
+{
+	const struct msghdr message = { .msg_iov = (struct iovec *)texts,
+					.msg_iovlen = count < 0 ? 0 : (size_t)count };
+	ssize_t result;
+
+	if (net_peers() && count <= UIO_MAXIOV && send_over(file, &message, 0, &result))
+		return result;
+	return REAL(writev)(file, texts, count);
+}

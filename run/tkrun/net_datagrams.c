@@ -1,0 +1,138 @@
+/* SPDX-License-Identifier: MIT OR Apache-2.0 */
+/* net_datagrams.c - datagrams on their way. tkrun sends them by the sockets of their senders. */
+#define _GNU_SOURCE
+#include "net.h"
+
+#include <errno.h>
+#include <stdlib.h>
+#include <string.h>
+#include <unistd.h>
+
+/* The socket of a sender, which all of its datagrams share. */
+struct sender {
+	struct sender *next;
+	uint64_t cookie; /* the kernel's number of the socket */
+	int file;
+	size_t flights;
+};
+
+struct datagram {
+	struct flight flight;
+	struct sender *sender;
+	struct message message;
+	size_t length;
+	char bytes[]; /* the control data, and what is sent */
+};
+
+static struct sender *senders;
+
+/* Returns the sender with a socket. It closes the file if it knows the socket. */
+static struct sender *sender_of(int file)
+{
+	struct sender *sender = senders;
+	uint64_t cookie = 0;
+	socklen_t length = sizeof(cookie);
+
+	getsockopt(file, SOL_SOCKET, SO_COOKIE, &cookie, &length);
+	while (sender && sender->cookie != cookie)
+		sender = sender->next;
+	if (sender) {
+		close(file);
+		return sender;
+	}
+	sender = net_allocate(sizeof(*sender));
+	*sender = (struct sender){ .next = senders, .cookie = cookie, .file = file };
+	senders = sender;
+	return sender;
+}
+
+/* Forgets a flight of a sender, whose program may have closed the socket. */
+static void let_sender_go(struct sender *sender)
+{
+	struct sender **place = &senders;
+
+	if (--sender->flights)
+		return;
+	while (*place != sender)
+		place = &(*place)->next;
+	*place = sender->next;
+	close(sender->file);
+	free(sender);
+}
+
+/* Returns whether a socket is bound to no address, so that the kernel would choose the host's. */
+static bool has_no_address(int file)
+{
+	union {
+		struct sockaddr any;
+		struct sockaddr_in four;
+		struct sockaddr_in6 six;
+	} own = { 0 };
+	socklen_t length = sizeof(own);
+
+	if (getsockname(file, &own.any, &length))
+		return false;
+	return own.any.sa_family == AF_INET ? !own.four.sin_addr.s_addr
+					    : IN6_IS_ADDR_UNSPECIFIED(&own.six.sin6_addr);
+}
+
+/* Adds to the control data that the node's address sends, unless the program says otherwise. */
+static size_t put_source(const struct datagram *datagram, char *control)
+{
+	const struct message *message = &datagram->message;
+	struct in_pktinfo info = {
+		.ipi_spec_dst.s_addr = node_machine(message->node)->shared->peers.own,
+	};
+	struct cmsghdr head = { CMSG_LEN(sizeof(info)), IPPROTO_IP, IP_PKTINFO };
+	size_t length = message->control_length;
+
+	memcpy(control, datagram->bytes, length);
+	if (length || !has_no_address(datagram->sender->file))
+		return length;
+	memcpy(control, &head, sizeof(head));
+	memcpy(CMSG_DATA((struct cmsghdr *)control), &info, sizeof(info));
+	return CMSG_SPACE(sizeof(info));
+}
+
+/* An earlier datagram may have met an error, which the kernel then returns once. */
+static void arrive(struct flight *flight, uint64_t now)
+{
+	struct datagram *datagram = (struct datagram *)flight;
+	struct message *message = &datagram->message;
+	_Alignas(struct cmsghdr) char control[CONTROL_MOST + CMSG_SPACE(sizeof(struct in_pktinfo))];
+	struct iovec text = { datagram->bytes + message->control_length, datagram->length };
+	struct msghdr out = { .msg_name = message->to_length ? &message->to : NULL,
+			      .msg_namelen = message->to_length,
+			      .msg_iov = &text,
+			      .msg_iovlen = 1,
+			      .msg_control = control };
+	int flags = MSG_NOSIGNAL | MSG_DONTWAIT;
+
+	(void)now;
+	out.msg_controllen = put_source(datagram, control);
+	if (sendmsg(datagram->sender->file, &out, flags) < 0 && errno != EAGAIN)
+		sendmsg(datagram->sender->file, &out, flags);
+	let_sender_go(datagram->sender);
+	free(datagram);
+}
+
+void take_datagram(const struct message *message, const char *bytes, size_t length, int file,
+		   uint64_t now)
+{
+	struct link *link = link_between(message->node, node_at(message->address));
+	bool is_lost = !link || link_loses(link) || link_is_full(link, now);
+	struct datagram *datagram;
+
+	if (is_lost) {
+		close(file);
+		return;
+	}
+	datagram = net_allocate(sizeof(*datagram) + message->control_length + length);
+	datagram->message = *message;
+	datagram->length = length;
+	memcpy(datagram->bytes, bytes, message->control_length + length);
+	datagram->sender = sender_of(file);
+	datagram->sender->flights++;
+	datagram->flight.arrive = arrive;
+	flight_begin(&datagram->flight, link, link_arrival(link, now, length));
+}
