@@ -21,6 +21,13 @@ enum { FAILURE = 0x746b0000, FAILURE_ERRORS = 0xffff };
 /* The most bytes of control data, and of a datagram of UDP. */
 enum { CONTROL_MOST = 512, DATAGRAM_MOST = 65507 };
 
+/* The name of a socket of IPv4 or IPv6. */
+union socket_name {
+	struct sockaddr any;
+	struct sockaddr_in four;
+	struct sockaddr_in6 six;
+};
+
 /* The control data and the bytes of a datagram come after this. */
 struct message {
 	uint32_t kind;		 /* enum message_kind */
@@ -28,11 +35,7 @@ struct message {
 	uint32_t address;	 /* the receiver's, of IPv4 in the network's order */
 	uint32_t to_length;	 /* of `to`, or 0 if the socket is connected */
 	uint32_t control_length; /* bytes */
-	union {
-		struct sockaddr any;
-		struct sockaddr_in four;
-		struct sockaddr_in6 six; /* with an address of IPv4 */
-	} to;
+	union socket_name to;	 /* one of IPv6 has an address of IPv4 */
 };
 
 #endif

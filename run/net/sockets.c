@@ -58,11 +58,7 @@ int net_type(int file)
 
 void net_bind(int file, uint32_t address)
 {
-	union {
-		struct sockaddr any;
-		struct sockaddr_in four;
-		struct sockaddr_in6 six;
-	} own = { 0 };
+	union socket_name own = { 0 };
 	socklen_t length = sizeof(own);
 
 	if (host_call(SYS_getsockname, file, (long)&own, (long)&length, 0, 0, 0) ||

@@ -63,11 +63,7 @@ static void let_sender_go(struct sender *sender)
 /* Returns whether a socket is bound to no address, so that the kernel would choose the host's. */
 static bool has_no_address(int file)
 {
-	union {
-		struct sockaddr any;
-		struct sockaddr_in four;
-		struct sockaddr_in6 six;
-	} own = { 0 };
+	union socket_name own = { 0 };
 	socklen_t length = sizeof(own);
 
 	if (getsockname(file, &own.any, &length))

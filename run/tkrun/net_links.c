@@ -2,6 +2,7 @@
 /* net_links.c - the links between nodes: what they lose, and when the rest arrives. */
 #define _GNU_SOURCE
 #include "net.h"
+#include "splitmix.h"
 
 #include <stdlib.h>
 
@@ -51,22 +52,15 @@ void links_cut(size_t one, size_t other, bool is_cut)
 	link_between(other, one)->is_cut = is_cut;
 }
 
-/* Mixes the bits of a number, as splitmix64 does. */
-static uint64_t mix(uint64_t bits)
-{
-	bits = (bits ^ bits >> 30) * 0xbf58476d1ce4e5b9;
-	bits = (bits ^ bits >> 27) * 0x94d049bb133111eb;
-	return bits ^ bits >> 31;
-}
-
 /* Returns the next random number of a link: from 0, and below 1. The numbers of two links don't
  * depend on each other. */
 static double draw(struct link *link)
 {
 	const struct link_options *o = &link->options;
-	uint64_t start = mix(o->seed + 1) + mix(o->from << 8 | o->to);
+	uint64_t start = splitmix_mix(o->seed + 1) + splitmix_mix(o->from << 8 | o->to);
+	uint64_t state = start + ++link->draws * SPLITMIX_STEP;
 
-	return (double)(mix(start + ++link->draws * 0x9e3779b97f4a7c15) >> 11) * 0x1p-53;
+	return (double)(splitmix_mix(state) >> 11) * 0x1p-53;
 }
 
 bool link_loses(struct link *link)

@@ -5,11 +5,7 @@
 
 struct sockaddr_in net_name(int file)
 {
-	union {
-		struct sockaddr any;
-		struct sockaddr_in four;
-		struct sockaddr_in6 six;
-	} name = { 0 };
+	union socket_name name = { 0 };
 	socklen_t length = sizeof(name);
 
 	getsockname(file, &name.any, &length);

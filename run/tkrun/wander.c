@@ -3,20 +3,11 @@
 #include "wander.h"
 
 #include "clocks/machine.h"
+#include "splitmix.h"
 
 /* From one step to the next. The error stays within PPM_MOST. */
 static const uint64_t STEP_NANOS = 10 * (uint64_t)NANOS;
 static const double PPM_MOST = 100000;
-
-/* The next of a row of numbers that look random: splitmix64, of Steele, Lea and Flood. */
-static uint64_t next_number(uint64_t *state)
-{
-	uint64_t mixed = *state += 0x9e3779b97f4a7c15;
-
-	mixed = (mixed ^ (mixed >> 30)) * 0xbf58476d1ce4e5b9;
-	mixed = (mixed ^ (mixed >> 27)) * 0x94d049bb133111eb;
-	return mixed ^ (mixed >> 31);
-}
 
 /* Returns a number for a name: FNV-1a of 64 bits. Nodes of one seed don't walk alike. */
 static uint64_t number_of(const char *name)
@@ -41,7 +32,8 @@ bool wander_make_step(struct wander *wander, uint64_t common)
 
 	if (wander->next > common)
 		return false;
-	part = (double)(int64_t)next_number(&wander->state) * 0x1p-63; /* -1 to 1 */
+	wander->state += SPLITMIX_STEP;
+	part = (double)(int64_t)splitmix_mix(wander->state) * 0x1p-63; /* -1 to 1 */
 	wander->ppm += part * wander->step;
 	if (wander->ppm > PPM_MOST)
 		wander->ppm = PPM_MOST;
