@@ -2,8 +2,8 @@
 /*
  * Sets REALTIME at each moment at which a read of it reads the host's clock. The read has loaded
  * the old clocks by then, and reads its counter after the new ones were published, so it must
- * return a time of the new ones. A function of this program stands in the vDSO's head in place of
- * the kernel's, before the library looks there. Prints what is wrong, or that there is no function
+ * return a time of the new ones. Before the library looks into the vDSO's head, this program puts
+ * its own function there instead of the kernel's. Prints what is wrong, or that there is no function
  * to replace.
  */
 #define _GNU_SOURCE

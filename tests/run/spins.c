@@ -3,7 +3,7 @@
  * Waits by reading a clock in a loop. Prints the number of its reads after the first one, and the
  * ns from that to the last one. It fails if the clock goes back.
  *
- *     spins CLOCK NANOS                until so many ns have passed
+ *     spins CLOCK NANOS                until NANOS ns have passed
  *     spins CLOCK NANOS SLEEP TIMES    or until another thread has slept TIMES times for SLEEP ns
  *                                      of MONOTONIC
  */

@@ -1,5 +1,5 @@
 /* SPDX-License-Identifier: GPL-2.0 */
-/* The persistent clock of process.c, in a file of its own since the kernel's one is weak. */
+/* The persistent clock of process.c. It has its own file, because the kernel's function is weak. */
 #include "linux.h"
 #include <linux/ktime.h>
 
