@@ -93,11 +93,7 @@ static uint32_t server_of(uint32_t address)
 
 EXPORT int getpeername(int file, __SOCKADDR_ARG address, socklen_t *restrict length)
 {
-	union {
-		struct sockaddr any;
-		struct sockaddr_in four;
-		struct sockaddr_in6 six;
-	} peer = { 0 };
+	union socket_name peer = { 0 };
 	socklen_t size = sizeof(peer), room = length ? *length : 0;
 	int result = REAL(getpeername)(file, address, length);
 	uint32_t found, *place = &peer.four.sin_addr.s_addr;
