@@ -10,7 +10,8 @@ use std::time::Clock as Hours;
 use tk_clock::{Command, Snapshot};
 use tk_counter::CounterDesc;
 use tk_keeper::Timekeeper;
-use tk_steered::{SECOND_ENTRIES_LIMIT, Steered};
+use tk_ntp::SECOND_ENTRIES_LIMIT;
+use tk_steered::Steered;
 
 /// The number of updates in a turn, 1 microsecond apart: all are in the first second.
 const UPDATES: usize = 100_000;

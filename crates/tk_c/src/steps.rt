@@ -14,7 +14,7 @@ ghost use Rattle.tk_c.specs.Steps.{step_refusal, IsStored, IsStepped};
 
 use crate::code::Code;
 use crate::storage::TimeStorage;
-use tk_clock::{ClockId, Refusal, Snapshot, Timespec};
+use tk_clock::{ClockId, Refusal, Snapshot, Timespec, time_moved};
 use tk_counter::NANOS_PER_SECOND;
 
 /// The end of the times that REALTIME may be set to, in ns (`TIME_SETTOD_SEC_MAX`).
@@ -70,6 +70,7 @@ fn stepped_late(snapshot: &Snapshot, reading: u64, by: Timespec) -> Result<(u64,
     requires early { let base = snapshot.now.base in
         early_refusal base.counter base.asleep base.last reading (Step by) ≡ None }
     requires low { reading ≤ mask snapshot.now.base.counter }
+    requires rest { by.nsec < 10 ^ 9 }
     ensures { let base = snapshot.now.base in
         MatchResult result
         (λ times. (step_refusal base reading by ≡ None)
@@ -96,6 +97,7 @@ fn stepped_within(
     requires value { pos monotonic ≡ base_value snapshot.now.base Monotonic reading }
     requires monotonic { base_value snapshot.now.base Monotonic reading <ℤ limit Monotonic }
     requires boottime { base_value snapshot.now.base Boottime reading <ℤ limit Boottime }
+    requires rest { by.nsec < 10 ^ 9 }
     ensures { let base = snapshot.now.base in
         MatchResult result
         (λ times. (step_refusal base reading by ≡ None)
@@ -133,14 +135,15 @@ fn monotonic_within(snapshot: &Snapshot, reading: u64) -> Result<u64, Refusal>
 /// Returns REALTIME after it is moved by an amount, in ns, or `None` if it is below MONOTONIC then,
 /// or at a time that may not be set.
 fn settable(monotonic: u64, real: u64, by: Timespec) -> Option<u64>
-    requires { real < (clock_end + monotonic_end) * 10 ^ 9 }
+    requires real { real < (clock_end + monotonic_end) * 10 ^ 9 }
+    requires rest { by.nsec < 10 ^ 9 }
     ensures { let after = pos real +ℤ nanoseconds by in
         MatchOption result
         ((after <ℤ pos monotonic) ⊎ (pos (settable_end * 10 ^ 9) ≤ℤ after))
         (λ nanos. (pos nanos ≡ after) × (pos monotonic ≤ℤ after)
         × (after <ℤ pos (settable_end * 10 ^ 9))) }
 {
-    let Some(after) = moved(real, by) else {
+    let Some(after) = time_moved(real, by) else {
         return None;
     };
     if after < monotonic || after >= SETTABLE_LIMIT {
@@ -149,31 +152,13 @@ fn settable(monotonic: u64, real: u64, by: Timespec) -> Option<u64>
     Some(after)
 }
 
-/// Returns a time in ns, moved by an amount, or `None` if the result is below 0 or doesn't fit in 64
-/// bits.
-fn moved(real: u64, by: Timespec) -> Option<u64>
-    requires { real < (clock_end + monotonic_end) * 10 ^ 9 }
-    ensures { let moved = pos real +ℤ nanoseconds by in
-        MatchOption result
-        ((moved <ℤ pos 0) ⊎ (pos (2 ^ 64) ≤ℤ moved))
-        (λ nanos. pos nanos ≡ moved) }
-{
-    let upward = real + u64::from(by.nsec);
-    let whole = by.sec.unsigned_abs().checked_mul(NANOS_PER_SECOND)?;
-    if by.sec < 0 {
-        upward.checked_sub(whole)
-    } else {
-        upward.checked_add(whole)
-    }
-}
-
 /// Runs the tests of a step that don't depend on a clock's value.
 #[tactic(auto, using(crate::proofs::StepTests::formed))]
 fn test_early(snapshot: &Snapshot, reading: u64, by: Timespec) -> Result<(), Refusal>
     ensures { let base = snapshot.now.base in
         MatchResult result
         (λ _. (early_refusal base.counter base.asleep base.last reading (Step by) ≡ None)
-        × (reading ≤ mask base.counter))
+        × (reading ≤ mask base.counter) × (by.nsec < 10 ^ 9))
         (λ refusal. early_refusal base.counter base.asleep base.last reading (Step by)
         ≡ Some refusal) }
 {

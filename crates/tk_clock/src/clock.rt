@@ -13,6 +13,7 @@ use crate::read_base::ReadBase;
 use crate::refusal::Refusal;
 use crate::snapshot::Snapshot;
 use crate::timespec::{Timespec, nanos_of};
+pub use settings::time_moved;
 use std::marker::Model;
 use tk_counter::{CounterDesc, USUAL_TICK};
 

@@ -1,3 +1,4 @@
+pub mod Giving
 pub mod ChangeCounter
 pub mod Folding
 pub mod Items

@@ -3,6 +3,7 @@ ghost use Rattle.std.specs.Prelude.{◌≡◌, ◌≤◌};
 mod applying;
 mod changing;
 mod folding;
+mod giving;
 mod latest;
 mod opening;
 mod past;

@@ -19,7 +19,7 @@ pub first : (a b : Option Refusal) → first_of a b ≡ None → a ≡ None
 first None b h = refl
 first (Some refusal) b h = absurd (cc)
 
-later : (a b : Option Refusal) → first_of a b ≡ None → b ≡ None
+pub later : (a b : Option Refusal) → first_of a b ≡ None → b ≡ None
 later None b h = h
 later (Some refusal) b h = absurd (cc)
 

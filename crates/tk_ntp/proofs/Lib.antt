@@ -16,6 +16,11 @@ pub mod MadeUp
 pub mod Marked
 pub mod Needed
 pub mod Long
+pub mod Keeping
+pub mod Early
+pub mod SeenBy
+pub mod Alone
+pub mod Laws
 pub mod Kept
 pub mod Left
 pub mod Product

@@ -26,6 +26,10 @@ pub mod Asked
 pub mod Applied
 pub mod Staged
 pub mod Late
+pub mod Course
+pub mod Entries
+pub mod Keeping
+pub mod Early
 pub mod Followed
 pub mod Numbers
 pub mod Restored

@@ -7,7 +7,6 @@ use Rattle.tk_clock.specs.declared.command.Command.TheVariants.{Update}
 use Rattle.tk_clock.specs.Reach.{distance}
 use Rattle.tk_clock.specs.Read.{read_of}
 use Rattle.tk_clock.specs.Refusal.{order_refusal, state_refusal}
-use Rattle.tk_ntp.specs.declared.begun_second.BegunSecond.{BegunSecond}
 use Rattle.tk_ntp.specs.declared.leap.Leap.{Leap}
 use Rattle.tk_ntp.specs.declared.leap.Leap.TheVariants.{None as NoLeap, Insert, Delete}
 use Rattle.tk_ntp.specs.Advance.{leap_of_clock, second_begun_at, IsDue, IsNoneDue}
@@ -33,11 +32,6 @@ leap_between before after =
     else if nat_eq after (before + 2) then Delete
     else NoLeap
 
--- whether the next second is due up to a reading
-abbrev pub IsDueIf : Bool → SteeredClock → ℕ → Type 0
-IsDueIf true steered reading = (at : ℕ) × IsDue steered reading at
-IsDueIf false steered reading = IsNoneDue steered reading
-
 -- the clocks are awake, and a read of REALTIME at a reading, which is not behind the last command,
 -- returns a time before the next second
 pub record IsEarly (steered : SteeredClock) (reading : ℕ) : Type 0 where
@@ -56,12 +50,3 @@ IsInOrder steered reading =
 pub record IsSettled (steered : SteeredClock) (reading : ℕ) : Type 0 where
   pub none : IsNoneDue steered reading
   pub order : IsInOrder steered reading
-
--- just the next second began, if REALTIME reaches it up to a reading
-abbrev pub IsOneBegun : ℕ → SteeredClock → Option BegunSecond → SteeredClock → Type 0
-IsOneBegun reading before result after =
-    MatchOption result
-    (IsNoneDue before reading × (after ≡ before))
-    (λ second. IsDue before reading second.reading
-    × (second.leap ≡ leap_made second.reading before)
-    × (after ≡ second_begun_at second.reading before))

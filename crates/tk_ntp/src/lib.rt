@@ -7,7 +7,9 @@
 //! | `Timex`, `Reply`, `TimeState` | a request, the reply to it, and the clock's state in it |
 //! | `Leap` | what REALTIME leaps by as a second begins |
 //! | `SteeredClock` | the clocks of a counter, steered by a discipline |
-//! | `BegunSecond`, `request_of` | a second that began; the request that a command acts as |
+//! | `Course` | such a discipline apart from its clocks, for whoever keeps these (`Clocks`) |
+//! | `request_of` | the request that a command acts as |
+//! | `SECOND_ENTRIES_LIMIT`, `REQUEST_ENTRIES_LIMIT` | the most entries of a second or a command; of a request |
 //! | `Steering`, `Lag` | a discipline with what its clock lags behind; the commands of a second |
 //! | `Rate`, `Change` | the frequency and the tick for a length, and the commands that set them |
 //! | `SteeredNumbers` .. | a discipline in plain numbers, as C code holds it |
@@ -15,9 +17,9 @@
 //! | `ADJ_OFFSET` .., `STA_PLL` .. | the bits of a request's `modes`, and of a status |
 #![tactic(auto)]
 
-mod begun_second;
 mod bits;
 mod change;
+mod course;
 mod discipline;
 mod lag;
 mod leap;
@@ -34,13 +36,13 @@ mod steered_clock;
 mod steering;
 mod timex;
 
-pub use begun_second::BegunSecond;
 pub use bits::{
     ADJ_ADJTIME, ADJ_ESTERROR, ADJ_FREQUENCY, ADJ_MAXERROR, ADJ_MICRO, ADJ_NANO, ADJ_OFFSET,
     ADJ_READONLY, ADJ_SETOFFSET, ADJ_STATUS, ADJ_TAI, ADJ_TICK, ADJ_TIMECONST, STA_CLOCKERR,
     STA_DEL, STA_FLL, STA_FREQHOLD, STA_INS, STA_MODE, STA_NANO, STA_PLL, STA_UNSYNC,
 };
 pub use change::Change;
+pub use course::{Course, REQUEST_ENTRIES_LIMIT, SECOND_ENTRIES_LIMIT, request_of};
 pub use discipline::Discipline;
 pub use lag::Lag;
 pub use leap::Leap;
@@ -48,6 +50,6 @@ pub use numbers::{DisciplineNumbers, LagNumbers, LeapNumbers, SteeredNumbers, St
 pub use numbers_error::NumbersError;
 pub use rate::Rate;
 pub use reply::{Reply, TimeState};
-pub use steered_clock::{SteeredClock, request_of};
+pub use steered_clock::SteeredClock;
 pub use steering::Steering;
 pub use timex::Timex;

@@ -2,17 +2,14 @@ ghost use Rattle.std.specs.Prelude.{◌≡◌, ◌≤◌, ◌*ℤ◌, ◌≤ℤ�
 
 mod advancing;
 mod asking;
-mod commanding;
 mod following;
-mod late;
 mod numbers;
-mod staging;
 mod uptime;
 
+use crate::course::Course;
 use crate::discipline::Discipline;
 use crate::rate::Rate;
 use crate::steering::Steering;
-pub use asking::request_of;
 use std::marker::Model;
 use tk_clock::{Clock, ClockId, Refusal, Snapshot, Timespec};
 use tk_counter::CounterDesc;
@@ -27,42 +24,23 @@ use tk_counter::CounterDesc;
 pub struct SteeredClock {
     /// Contains the running clocks.
     clock: Clock,
-    /// Contains the discipline, and what the clocks lag behind the lengths of their seconds.
-    steering: Steering,
-    /// Contains the second of REALTIME that begins next, in seconds since 1970.
-    next: u64,
-    /// Contains the reading up to which the lag is accounted for, in cycles.
-    mark: u64,
+    /// Contains the course of their discipline.
+    course: Course,
 }
 
 impl Model for SteeredClock {
     ghost use Rattle.std.specs.Prelude.{◌+◌, ◌≤◌};
     ghost use Rattle.tk_clock.specs.Limits.{clock_end};
+    ghost use Rattle.tk_ntp.specs.Course.{course_of, seen};
     ghost use Rattle.tk_ntp.specs.SteeredClock.{SteeredClock};
 
     ghost Value = { SteeredClock };
 
-    ghost view = { λ a. record {
-      clock = a.clock;
-      steering = a.steering;
-      next = a.next;
-      mark = a.mark;
-    } };
+    ghost view = { λ a. seen a.clock a.course };
 
-    // `IsMarked` isn't part of it, although each public call except `begin_due`, `begin_late`,
-    // `command`, `request` and `catch_up` keeps it (of `advance_late` no clause states it).
-    // Those five and the private calls take any reading, and `begin_next`, `account` and `restart`
-    // move the mark before the clocks get their command. The invariant would hold after each of
-    // these only if all of them required a reading that is in order and that no second is due
-    // before, so tk_steered would owe that too.
-    ghost invariant = { λ a. a.next ≤ clock_end + 1 };
-
-    ghost inverse = { λ s. record {
-      clock = s.clock;
-      steering = s.steering;
-      next = s.next;
-      mark = s.mark;
-    } };
+    // `IsMarked` is no invariant: `from_numbers` takes any numbers, and the calls that follow a
+    // shared keeper take any reading
+    ghost inverse = { λ s. record { clock = s.clock; course = course_of s } };
 }
 
 impl SteeredClock {
@@ -74,6 +52,7 @@ impl SteeredClock {
     ghost use Rattle.tk_counter.specs.Counter.{least_tick, greatest_tick};
     ghost use Rattle.tk_ntp.specs.Account.{owed, IsMarked};
     ghost use Rattle.tk_ntp.specs.Change.{multiplier_at};
+    ghost use Rattle.tk_ntp.specs.Course.{course_of, seen};
     ghost use Rattle.tk_ntp.specs.Ntp.{second_length};
     ghost use Rattle.tk_ntp.specs.Rate.{IsNearUsual, nominal};
     ghost use Rattle.tk_ntp.specs.SteeredClock.{steered_by, steered_refusal, steered_opened, rate_in_force};
@@ -120,9 +99,11 @@ impl SteeredClock {
     {
         SteeredClock {
             clock,
-            steering: Steering::new(ntp),
-            next: real.sec.unsigned_abs() + 1,
-            mark: reading,
+            course: Course {
+                steering: Steering::new(ntp),
+                next: real.sec.unsigned_abs() + 1,
+                mark: reading,
+            },
         }
     }
 
@@ -137,11 +118,7 @@ impl SteeredClock {
             (IsNeverReached self.now.clock.base Realtime nanos)
             (λ reading. IsFirstReached self.now.clock.base Realtime nanos reading) }
     {
-        let time = Timespec {
-            sec: self.next_sec(),
-            nsec: 0,
-        };
-        self.snapshot(0).reading_at(ClockId::Realtime, time)
+        self.course.next_second(&self.clock)
     }
 
     /// Returns whether the next second of REALTIME is further away than `next_second` searches
@@ -151,18 +128,8 @@ impl SteeredClock {
         ensures { let nanos = nanoseconds (second_time self.now.next) in
             IsTrue result ↔ IsFurther self.now.clock.base Realtime nanos }
     {
-        let time = Timespec {
-            sec: self.next_sec(),
-            nsec: 0,
-        };
+        let time = self.course.next_time();
         self.snapshot(0).is_further(ClockId::Realtime, time)
-    }
-
-    /// Returns the second of REALTIME that begins next, since 1970.
-    fn next_sec(&self) -> i64
-        ensures { result ≡ pos self.now.next }
-    {
-        self.next as i64
     }
 
     /// Returns the frequency and the tick that the clocks run at.
@@ -185,7 +152,7 @@ impl SteeredClock {
     pub fn second_length(&self) -> i64
         ensures { result ≡ second_length self.now.steering.ntp }
     {
-        self.steering.second_length()
+        self.course.steering.second_length()
     }
 
     /// Returns the clocks.
@@ -203,10 +170,18 @@ impl SteeredClock {
         self.clock.snapshot(front)
     }
 
-    /// Returns the description of the counter.
-    fn desc(&self) -> CounterDesc
-        ensures { result ≡ self.now.clock.base.counter }
+    /// Returns the course of the discipline, apart from the clocks: an owner who keeps the clocks
+    /// elsewhere goes on with it.
+    pub fn course(&self) -> Course
+        ensures { result ≡ course_of self.now }
     {
-        self.snapshot(0).desc()
+        self.course
+    }
+
+    /// Returns clocks with the course of a discipline. The caller passes those that belong together.
+    pub fn with_course(clock: Clock, course: Course) -> SteeredClock
+        ensures { result ≡ seen clock course }
+    {
+        SteeredClock { clock, course }
     }
 }

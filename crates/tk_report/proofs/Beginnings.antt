@@ -1,5 +1,5 @@
 -- The journal with which a script begins has no entries.
-use Rattle.std.proofs.Common.{◌≡◌, ◌∙◌, ◌≤◌, ℕ, refl, ap, arith}
+use Rattle.std.proofs.Common.{◌≡◌, ◌≤◌, ℕ, refl, arith}
 use Rattle.std.specs.Prelude.{Option, Some, None}
 use Rattle.tk_counter.specs.Counter.{Counter}
 use Rattle.tk_clock.specs.declared.refusal.Refusal.{Refusal}
@@ -7,7 +7,6 @@ use Rattle.tk_clock.specs.declared.timespec.Timespec.{Timespec}
 use Rattle.tk_clock.specs.Journal.{accepted_count}
 use Rattle.tk_clock.specs.Refusal.{first_of, opening_refusal}
 use Rattle.tk_ntp.specs.SteeredClock.{steered_refusal}
-use Rattle.tk_steered.specs.Logged.{Logged, SteeredKeeper}
 use Rattle.tk_script.specs.Start.{IsOpenable, journal_at, most_front}
 use Rattle.tk_script.specs.declared.opening.Start.{Start}
 use Rattle.tk_script.specs.declared.opening.Start.TheVariants.{Opened, Steered, Running, Continued}
@@ -35,10 +34,3 @@ pub opens-unsteered : (counter : Counter) (reading : ℕ) (real : Timespec) (hz 
     steered_refusal counter reading real hz ≡ None → opening_refusal counter reading real ≡ None
 opens-unsteered counter reading real hz opens =
     first_none (opening_refusal counter reading real) _ opens
-
--- steered clocks with this journal and without spare memory
-pub steered-made : (keeper : SteeredKeeper) (logged : Logged) → keeper.logged ≡ logged →
-    keeper.spare ≡ 0 → keeper ≡ record { logged = logged; spare = 0 }
-steered-made keeper logged same spare =
-    let made : Logged → ℕ → SteeredKeeper = λ l s. record { logged = l; spare = s } in
-    ap (λ (l : Logged). made l keeper.spare) same ∙ ap (made logged) spare

@@ -15,7 +15,7 @@ use Rattle.tk_report.specs.Reports.{IsPlainReportWith, IsReportFrom, IsReportOfR
 use Rattle.tk_report.specs.SteeredReport.{IsSteeredJournal, IsSteeredJournalOfRows, IsSteeredReport, IsSteeredReportOfRows, continued_from, steered_from}
 use Rattle.tk_report.specs.Trace.{IsJournalFrom, IsJournalOf, after_all, journal_after}
 use Rattle.tk_report.proofs.Lines.{Rows, Fails-from, fails-opened}
-use Rattle.tk_steered.specs.Logged.{SteeredKeeper}
+use Rattle.tk_steered.specs.Kept.{SteeredKeeper}
 
 -- no discipline steers the clocks
 abbrev pub IsUnsteered : Start → Type 0

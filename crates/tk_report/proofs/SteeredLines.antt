@@ -6,7 +6,7 @@ use Rattle.tk_script.specs.declared.row.Row.{Row}
 use Rattle.tk_script.specs.declared.script_error.ScriptError.{ScriptError}
 use Rattle.tk_script.specs.Coming.{row_and}
 use Rattle.tk_script.specs.Lines.{open_line}
-use Rattle.tk_steered.specs.Logged.{SteeredKeeper}
+use Rattle.tk_steered.specs.Kept.{SteeredKeeper}
 use Rattle.tk_report.specs.Report.{difference, differs_text}
 use Rattle.tk_report.specs.SteeredReport.{IsSteeredAfter, IsSteeredAfterAll, IsSteeredJournalOfRows, IsSteeredLine, IsSteeredLines, IsSteeredReportOfRows, journal_in, missed_after}
 use Rattle.tk_report.proofs.Lines.{Rows}

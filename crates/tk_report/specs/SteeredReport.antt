@@ -1,7 +1,7 @@
 -- The report of a script whose clocks a discipline steers: a line for its opening and one for each
 -- record after it. The seconds of REALTIME up to a record's reading begin first, and the journal
 -- lists the commands that they give.
-use Rattle.std.specs.Prelude.{◌≡◌, ◌≢◌, ℕ, ◌+◌, ⊤, List, [], ◌∷◌, ◌++◌, Option, Some, None, Result, Ok, Err}
+use Rattle.std.specs.Prelude.{◌≡◌, ◌≢◌, ℕ, ◌+◌, ⊤, false, List, [], ◌∷◌, ◌++◌, Option, Some, None, Result, Ok, Err}
 use Rattle.tk_clock.specs.declared.clock_id.ClockId.TheVariants.{Monotonic}
 use Rattle.tk_clock.specs.declared.command.Command.{Command}
 use Rattle.tk_clock.specs.declared.refusal.Refusal.{Refusal}
@@ -20,15 +20,12 @@ use Rattle.tk_script.specs.declared.row.Row.TheVariants.{Act, Look, Change, Ask}
 use Rattle.tk_script.specs.declared.script_error.ScriptError.{ScriptError}
 use Rattle.tk_script.specs.AdjLine.{adj_line}
 use Rattle.tk_script.specs.Lines.{open_line, ok_line, no_line}
-use Rattle.tk_steered.specs.Answered.{IsAnsweredBy}
-use Rattle.tk_steered.specs.Applied.{IsAppliedBy}
-use Rattle.tk_steered.specs.Begun.{IsAdvancedTo}
-use Rattle.tk_steered.specs.Logged.{SteeredKeeper, logged_from, logged_opened}
+use Rattle.tk_steered.specs.Kept.{SteeredKeeper, IsAdvancedTo, IsAnsweredBy, IsAppliedBy, kept_from, kept_opened}
 use Rattle.tk_report.specs.Report.{IsLookLine, IsTimeAt, difference, differs_text, missed_at}
 
 -- the journal of the commands that the clocks were given
 abbrev pub journal_in : SteeredKeeper → Journal
-journal_in keeper = keeper.logged.journal
+journal_in kept = kept.keeper.journal
 
 -- the line of an accepted command: the number of the commands accepted so far, and MONOTONIC at the
 -- command's reading
@@ -67,7 +64,7 @@ IsAnswerLine before reading request line after =
 abbrev pub IsLookAt : SteeredKeeper → ℕ → SteeredKeeper → Type 0
 IsLookAt before reading after =
     (result : Result ⊤ Refusal) × (result ≢ Err Memory)
-    × IsAdvancedTo 0 reading before result after
+    × IsAdvancedTo false 0 reading before result after
 
 -- the line of a record, and the clocks after it
 abbrev pub IsSteeredLine : SteeredKeeper → Row → List ℕ → SteeredKeeper → Type 0
@@ -118,14 +115,11 @@ IsSteeredAfterAll before (row ∷ rows) after =
 
 -- the clocks with which such a script begins: newly opened ones
 abbrev pub steered_from : Opening → ℕ → SteeredKeeper
-steered_from opening hz = record {
-  logged = logged_opened opening.desc opening.reading opening.real hz;
-  spare = 0;
-}
+steered_from opening hz = kept_opened opening.desc opening.reading opening.real hz
 
 -- or running ones, with their discipline, which have accepted this many commands
 abbrev pub continued_from : SteeredClock → ℕ → SteeredKeeper
-continued_from clock front = record { logged = logged_from front clock; spare = 0 }
+continued_from clock front = kept_from front clock
 
 -- the report of rows, if a script begins with these steered clocks, and the number of its
 -- differences: the opening is the record 1

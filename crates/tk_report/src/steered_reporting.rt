@@ -55,7 +55,7 @@ fn add_steered_line<A: Allocator + Copy>(
     ensures line { OnOk result ((line : List ℕ)
         × IsSteeredLine clocks.old row line clocks.new
         × (text.new.items ≡ text.old.items ++ line)) }
-    ensures missed { IfOk result (λ value. value ≡ missed_after clocks.new.logged.journal row) }
+    ensures missed { IfOk result (λ value. value ≡ missed_after clocks.new.keeper.journal row) }
     ensures err { IfErr result (λ error. error ≡ ScriptError.Memory) }
 {
     match row {

@@ -1,10 +1,4 @@
-pub mod Changes
-pub mod Leads
-pub mod Entries
-pub mod Lags
-pub mod Early
-pub mod Advances
-pub mod Folds
-pub mod Clocks
-pub mod Updates
+pub mod Numbered
+pub mod Answered
 pub mod Continued
+pub mod Settled

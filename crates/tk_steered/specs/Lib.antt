@@ -1,6 +1,1 @@
-pub mod Commands
-pub mod Early
-pub mod Logged
-pub mod Begun
-pub mod Answered
-pub mod Applied
+pub mod Kept

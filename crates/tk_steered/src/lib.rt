@@ -3,13 +3,14 @@
 //! | Item | Its meaning |
 //! |---|---|
 //! | `Steered` | a `Timekeeper` that a discipline steers |
-//! | `SECOND_ENTRIES_LIMIT` | the most entries that a second or a command makes |
-//! | `REQUEST_ENTRIES_LIMIT` | the most entries that a request makes |
 //!
-//! Units: readings in cycles. Entries are numbered from 1. Only `advance`, `adjtimex`, `apply` and
-//! `reserve` allocate, while the memory that was reserved isn't enough. No call waits.
+//! A second of REALTIME and a command make at most `SECOND_ENTRIES_LIMIT` entries, a request at most
+//! `REQUEST_ENTRIES_LIMIT` (tk_ntp).
+//!
+//! Units: readings in cycles. Entries are numbered from 1. Only `advance`, `advance_late`, `adjtimex`,
+//! `apply` and `reserve` allocate, while the memory that was reserved isn't enough. No call waits.
 #![tactic(auto)]
 
 mod steered;
 
-pub use steered::{REQUEST_ENTRIES_LIMIT, SECOND_ENTRIES_LIMIT, Steered};
+pub use steered::Steered;

@@ -1,75 +1,56 @@
-ghost use Rattle.std.specs.Prelude.{◌≡◌, ◌+◌, ◌<◌, ◌≤◌, MatchResult, MatchOption, Some, None, true};
+ghost use Rattle.std.specs.Prelude.{◌≡◌, ◌<◌, ◌≤◌, MatchResult, MatchOption, Some, None};
 
-mod advancing;
-mod asking;
-mod entering;
+mod applying;
 mod folding;
-mod late;
-mod updating;
+mod seconds;
 
 use std::alloc::{Allocator, Global};
 use std::marker::Model;
 use tk_clock::{Refusal, Timespec};
 use tk_counter::CounterDesc;
 use tk_keeper::Timekeeper;
-use tk_ntp::SteeredClock;
-
-/// The most entries that a second of REALTIME makes as it begins, and that a command makes: one,
-/// and one each for the tick and the frequency.
-pub const SECOND_ENTRIES_LIMIT: usize = 3;
-
-/// The most entries that a request makes: a step, the TAI offset, and twice the tick and the
-/// frequency.
-pub const REQUEST_ENTRIES_LIMIT: usize = 6;
+use tk_ntp::{Course, SteeredClock};
 
 /// Keeps the clocks of one counter, steered by a discipline, and the journal of all commands that
 /// they are given: those of its callers, and those that the discipline gives.
 ///
-/// Its clocks are always the clocks of its journal. It has no source of time: the caller passes the
-/// counter's reading with each call. It contains no lock.
+/// It has no source of time: the caller passes the counter's reading with each call. It contains no
+/// lock.
 #[derive(Drop)]
 pub struct Steered<A: Allocator = Global> {
     /// Contains the clocks and their journal.
     keeper: Timekeeper<A>,
-    /// Contains the same clocks with their discipline. If `early` is above 0, they haven't taken
-    /// over the updates since the keeper's clocks were the same: `current` returns them up to date.
-    clock: SteeredClock,
+    /// Contains the course of their discipline.
+    course: Course,
     /// Contains a number of cycles. At a reading that is fewer cycles after the last one, the next
-    /// second hasn't begun, so only the keeper's clocks need an update there. 0 says nothing.
+    /// second hasn't begun. 0 says nothing.
     early: u64,
 }
 
 impl<A: Allocator> Model for Steered<A> {
-    ghost use Rattle.std.specs.Prelude.{◌≡◌};
-    ghost use Rattle.tk_clock.specs.State.{state_of};
-    ghost use Rattle.tk_steered.specs.Early.{IsCurrent, current};
-    ghost use Rattle.tk_steered.specs.Logged.{SteeredKeeper};
+    ghost use Rattle.tk_keeper.specs.Room.{keeper_state};
+    ghost use Rattle.tk_ntp.specs.Course.{seen};
+    ghost use Rattle.tk_ntp.specs.Early.{IsEarlyBy};
+    ghost use Rattle.tk_steered.specs.Kept.{SteeredKeeper};
 
     ghost Value = { SteeredKeeper };
 
-    ghost view = { λ a. record {
-      logged = record {
-        journal = a.keeper.journal;
-        began = a.keeper.began;
-        clock = current a.early (state_of a.keeper.journal) a.clock;
-      };
-      spare = a.keeper.spare;
-    } };
+    ghost view = { λ a. record { keeper = a.keeper; course = a.course } };
 
-    ghost invariant = { λ a. IsCurrent a.early (state_of a.keeper.journal) a.clock };
+    ghost invariant = { λ a. IsEarlyBy a.early (seen (keeper_state a.keeper) a.course) };
 }
 
 impl<A: Allocator + Copy> Steered<A> {
     ghost use Rattle.tk_clock.specs.declared.clock_id.ClockId.TheVariants.{Realtime};
+    ghost use Rattle.tk_clock.specs.declared.refusal.Refusal.TheVariants.{Invalid};
     ghost use Rattle.tk_clock.specs.Legal.{IsLegal};
     ghost use Rattle.tk_clock.specs.Limits.{counted_most};
-    ghost use Rattle.tk_clock.specs.declared.refusal.Refusal.TheVariants.{Invalid};
     ghost use Rattle.tk_clock.specs.Reach.{IsFirstReached, IsNeverReached};
-    ghost use Rattle.tk_clock.specs.State.{state_of};
     ghost use Rattle.tk_clock.specs.Time.{nanoseconds};
+    ghost use Rattle.tk_keeper.specs.Room.{keeper_state};
     ghost use Rattle.tk_ntp.specs.Advance.{second_time};
     ghost use Rattle.tk_ntp.specs.SteeredClock.{steered_refusal};
-    ghost use Rattle.tk_steered.specs.Logged.{logged_opened, logged_from};
+    ghost use Rattle.tk_steered.specs.Kept.{kept_from, kept_opened, steered_of};
 
     /// Opens the clocks of the counter `desc` at `reading`, in cycles, with an empty journal and a
     /// fresh discipline. They are awake and at their usual rate, MONOTONIC is 0 and REALTIME is
@@ -90,14 +71,14 @@ impl<A: Allocator + Copy> Steered<A> {
     ) -> Result<Steered<A>, Refusal>
         ensures { MatchResult result
             (λ steered. (steered_refusal desc reading real hz ≡ None)
-            × (steered.logged ≡ logged_opened desc reading real hz) × (steered.spare ≡ 0))
+            × (steered ≡ kept_opened desc reading real hz))
             (λ refusal. steered_refusal desc reading real hz ≡ Some refusal) }
     {
         let keeper = Timekeeper::open(alloc, desc, reading, real)?;
         let clock = SteeredClock::open(desc, reading, real, hz)?;
         Ok(Steered {
             keeper,
-            clock,
+            course: clock.course(),
             early: 0,
         })
     }
@@ -115,14 +96,13 @@ impl<A: Allocator + Copy> Steered<A> {
     /// `Refusal::Invalid` if `front` is above `2^63 - 1`.
     pub fn open_from(alloc: A, steered: SteeredClock, front: u64) -> Result<Steered<A>, Refusal>
         ensures { MatchResult result
-            (λ opened. (front ≤ counted_most) × (opened.logged ≡ logged_from front steered)
-            × (opened.spare ≡ 0))
+            (λ opened. (front ≤ counted_most) × (opened ≡ kept_from front steered))
             (λ refusal. (counted_most < front) × (refusal ≡ Invalid)) }
     {
         let keeper = Timekeeper::open_from(alloc, steered.clock(), front)?;
         Ok(Steered {
             keeper,
-            clock: steered,
+            course: steered.course(),
             early: 0,
         })
     }
@@ -130,25 +110,20 @@ impl<A: Allocator + Copy> Steered<A> {
     /// Returns the clocks with their journal: `get`, `snapshot`, `snapshot_at`, `trace`, `entry`
     /// and `len` are its calls.
     pub fn keeper(&self) -> &Timekeeper<A>
-        ensures journal { result.now.journal ≡ self.now.logged.journal }
-        ensures spare { result.now.spare ≡ self.now.spare }
-        ensures began { result.now.began ≡ self.now.logged.began }
-        ensures legal { IsLegal self.now.logged.began self.now.logged.journal }
+        ensures keeper { result.now ≡ self.now.keeper }
+        ensures legal { IsLegal self.now.keeper.began self.now.keeper.journal }
     {
-        // the journal is legal
-        let _count = self.keeper.len();
-        &self.keeper
+        let keeper = &self.keeper;
+        // its journal is legal
+        let _count = keeper.len();
+        keeper
     }
 
     /// Returns the clocks with their journal, and ends the steering: later commands, if any, are
     /// those of the caller. The rate in force stays.
     pub fn into_keeper(self) -> Timekeeper<A>
-        ensures journal { result.journal ≡ self.logged.journal }
-        ensures spare { result.spare ≡ self.spare }
-        ensures began { result.began ≡ self.logged.began }
-        ensures legal { IsLegal self.logged.began self.logged.journal }
-        // the clocks are those that the discipline steered
-        ensures running { state_of result.journal ≡ self.logged.clock.clock }
+        ensures keeper { result ≡ self.keeper }
+        ensures legal { IsLegal self.keeper.began self.keeper.journal }
     {
         let keeper = self.keeper;
         // its journal is legal
@@ -159,34 +134,20 @@ impl<A: Allocator + Copy> Steered<A> {
     /// Returns the same clocks with their discipline: `rate`, `numbers` and `is_next_further` are
     /// its calls. A change of the returned copy doesn't change these clocks.
     pub fn clock(&self) -> SteeredClock
-        ensures value { result ≡ self.now.logged.clock }
-        // they are the clocks of the journal
-        ensures running { result.clock ≡ state_of self.now.logged.journal }
+        ensures { result ≡ steered_of self.now }
     {
-        self.current()
-    }
-
-    /// Returns the clocks with their discipline, up to date.
-    fn current(&self) -> SteeredClock
-        ensures value { result ≡ self.now.logged.clock }
-        ensures running { result.clock ≡ state_of self.now.logged.journal }
-    {
-        if self.early == 0 {
-            return self.clock;
-        }
-        let mut now = self.clock;
-        now.catch_up(self.keeper.clock());
-        now
+        SteeredClock::with_course(*self.keeper.clock(), self.course)
     }
 
     /// Returns the first reading, in cycles, at which the next second of REALTIME has begun: the
     /// one to set a timer to (`SteeredClock::next_second`).
     pub fn next_second(&self) -> Option<u64>
-        ensures { let nanos = nanoseconds (second_time self.now.logged.clock.next) in
+        ensures { let base = (keeper_state self.now.keeper).base in
+            let nanos = nanoseconds (second_time self.now.course.next) in
             MatchOption result
-            (IsNeverReached self.now.logged.clock.clock.base Realtime nanos)
-            (λ reading. IsFirstReached self.now.logged.clock.clock.base Realtime nanos reading) }
+            (IsNeverReached base Realtime nanos)
+            (λ reading. IsFirstReached base Realtime nanos reading) }
     {
-        self.current().next_second()
+        self.course.next_second(self.keeper.clock())
     }
 }

@@ -76,7 +76,7 @@ impl Clock {
             return Err(Refusal::Range);
         }
         let monotonic = now.monotonic_now();
-        let Some(real) = moved(monotonic + self.base.real_offset, by) else {
+        let Some(real) = time_moved(monotonic + self.base.real_offset, by) else {
             return Err(Refusal::Invalid);
         };
         if real < monotonic || real >= settable_limit() {
@@ -101,9 +101,9 @@ impl Clock {
     }
 }
 
-/// Returns a time in ns, moved by an amount. Returns `None` if the result is before 1970 or doesn't
-/// fit in 64 bits.
-fn moved(real: u64, by: Timespec) -> Option<u64>
+/// Returns a time in ns, moved by an amount. Returns `None` if the result is below 0 or doesn't fit in
+/// 64 bits.
+pub fn time_moved(real: u64, by: Timespec) -> Option<u64>
     requires real { real < (clock_end + monotonic_end) * 10 ^ 9 }
     requires rest { by.nsec < 10 ^ 9 }
     ensures { let moved = pos real +ℤ nanoseconds by in

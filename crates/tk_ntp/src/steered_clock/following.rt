@@ -13,6 +13,7 @@ ghost use Rattle.tk_ntp.specs.SteeredClock.{rate_in_force};
 
 use super::SteeredClock;
 use crate::change::Change;
+use crate::course::{real, tai_of};
 use crate::leap::Leap;
 use crate::reply::Reply;
 use crate::timex::Timex;
@@ -37,10 +38,10 @@ impl SteeredClock {
         ensures fewer { MatchOption result (Unit {0})
             (λ leap. seconds_left_after leap self.new < seconds_left self.old) }
     {
-        let Some(at) = self.due(reading) else {
+        let Some(at) = self.course.due(&self.clock, reading) else {
             return None;
         };
-        Some(self.begin_next(at))
+        Some(self.course.begin_next(&self.clock, at))
     }
 
     /// Follows a command that the clocks were given at a reading: accounts for the cycles up to it,
@@ -59,10 +60,10 @@ impl SteeredClock {
         ensures sum { is_resume cmd ≡ false → IsNoEarlier reading self.old →
             IfOk result (λ _. IsOwedAt reading self.old self.new) }
     {
-        let mut next = *self;
-        next.account(reading);
-        next.clock.apply(reading, cmd)?;
-        *self = next;
+        let mut course = self.course;
+        course.account(&self.clock, reading);
+        self.clock.apply(reading, cmd)?;
+        self.course = course;
         Ok(())
     }
 
@@ -82,9 +83,10 @@ impl SteeredClock {
         ensures sum { IsNoEarlier reading self.old →
             IfOk result (λ _. IsOwedAt reading self.old self.new) }
     {
-        let next = leap.next_second(self.next);
-        self.follow_command(reading, leap.command(self.tai()))?;
-        self.next = next;
+        let next = leap.next_second(self.course.next);
+        let tai = tai_of(&self.clock);
+        self.follow_command(reading, leap.command(tai))?;
+        self.course.next = next;
         Ok(())
     }
 
@@ -94,7 +96,7 @@ impl SteeredClock {
         ensures value { let clock = self.now.clock in
             result ≡ commands clock.base.counter (rate_in_force clock) self.now.steering }
     {
-        self.steering.commands(self.desc(), self.rate())
+        self.course.needed_change(&self.clock)
     }
 
     /// Does what a request without a fault asks the discipline for, at the reading of the last
@@ -112,8 +114,8 @@ impl SteeredClock {
         requires sound { is_faulty request.now ≡ false }
         ensures { IsAskedAlone request.now self.old result self.new }
     {
-        let real = self.real(self.mark)?;
-        let tai = self.tai();
-        Ok(self.ask_discipline(request, real, tai))
+        let real = real(&self.clock, self.course.mark())?;
+        let tai = tai_of(&self.clock);
+        Ok(self.course.ask_discipline(request, real, tai))
     }
 }

@@ -4,6 +4,7 @@ ghost use Rattle.tk_ntp.specs.Numbers.{steered_numbers};
 ghost use Rattle.tk_ntp.specs.Restored.{steered_from};
 
 use super::SteeredClock;
+use crate::course::Course;
 use crate::numbers::SteeredNumbers;
 use crate::numbers_error::NumbersError;
 use crate::steering::Steering;
@@ -17,11 +18,7 @@ impl SteeredClock {
         ensures value { result ≡ steered_numbers self.now }
         ensures back { steered_from self.now.clock (steered_numbers self.now) ≡ Ok self.now }
     {
-        SteeredNumbers {
-            steering: self.steering.numbers(),
-            next: self.next,
-            mark: self.mark,
-        }
+        self.course.numbers()
     }
 
     /// Restores steered clocks from their clocks and their numbers. Any clocks and numbers that
@@ -60,9 +57,11 @@ impl SteeredClock {
         }
         Ok(SteeredClock {
             clock,
-            steering: Steering::of_numbers(steering),
-            next: numbers.next,
-            mark: numbers.mark,
+            course: Course {
+                steering: Steering::of_numbers(steering),
+                next: numbers.next,
+                mark: numbers.mark,
+            },
         })
     }
 }

@@ -15,15 +15,16 @@ impl<A: Allocator + Copy> Steered<A> {
     /// listed, and returns the number of commands folded so far (`Timekeeper::fold`). The clocks
     /// and their discipline stay.
     pub fn fold(&mut self, keep: u64) -> u64
-        ensures answer { let before = self.old.logged.journal in
+        ensures answer { let before = self.old.keeper.journal in
             result ≡ max before.opening.count (accepted_count before - keep) }
-        ensures journal { let before = self.old.logged.journal in
-            self.new.logged.journal ≡ folded_by (result - before.opening.count) before }
-        ensures same { IsFolded self.old.logged.journal self.new.logged.journal }
-        ensures began { self.new.logged.began ≡ self.old.logged.began }
-        ensures clock { self.new.logged.clock ≡ self.old.logged.clock }
-        ensures spare { self.old.spare ≤ self.new.spare }
+        ensures journal { let before = self.old.keeper.journal in
+            self.new.keeper.journal ≡ folded_by (result - before.opening.count) before }
+        ensures same { IsFolded self.old.keeper.journal self.new.keeper.journal }
+        ensures began { self.new.keeper.began ≡ self.old.keeper.began }
+        ensures course { self.new.course ≡ self.old.course }
+        ensures spare { self.old.keeper.spare ≤ self.new.keeper.spare }
     {
+        self.early = 0;
         self.keeper.fold(keep)
     }
 
@@ -34,14 +35,17 @@ impl<A: Allocator + Copy> Steered<A> {
     ///
     /// `Memory` if that memory can't be allocated.
     pub fn reserve(&mut self, extra: usize) -> Result<(), Refusal>
-        ensures answer { let listed = length self.old.logged.journal.entries in
+        ensures answer { let listed = length self.old.keeper.journal.entries in
             let wanted = min extra (listed_most - listed) in
             MatchResult result
-            (λ _. wanted ≤ self.new.spare)
-            (λ refusal. (refusal ≡ Memory) × (self.new.spare < wanted)) }
-        ensures logged { self.new.logged ≡ self.old.logged }
-        ensures spare { self.old.spare ≤ self.new.spare }
+            (λ _. wanted ≤ self.new.keeper.spare)
+            (λ refusal. (refusal ≡ Memory) × (self.new.keeper.spare < wanted)) }
+        ensures journal { self.new.keeper.journal ≡ self.old.keeper.journal }
+        ensures began { self.new.keeper.began ≡ self.old.keeper.began }
+        ensures course { self.new.course ≡ self.old.course }
+        ensures spare { self.old.keeper.spare ≤ self.new.keeper.spare }
     {
+        self.early = 0;
         self.keeper.reserve(extra)
     }
 }

@@ -2,8 +2,8 @@ use super::{CALLER, assert_alike, assert_replays, assert_same, offset, opened, p
 use std::alloc::Allocator;
 use std::process::Abort;
 use tk_clock::{Command, Refusal};
-use tk_ntp::SteeredClock;
-use tk_steered::{SECOND_ENTRIES_LIMIT, Steered};
+use tk_ntp::{SECOND_ENTRIES_LIMIT, SteeredClock};
+use tk_steered::Steered;
 use tk_test_support::Heap;
 
 /// The reading of the end of the seconds that the tests let begin: 20 minutes.

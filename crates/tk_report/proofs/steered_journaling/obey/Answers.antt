@@ -7,3 +7,11 @@ pub returns-in_default-adjtimex-2-clause-after : goal.returns-in_default-adjtime
 returns-in_default-adjtimex-2-clause-after g c =
     let other : c.adjtimex.result ≢ Err Memory = search rules in
     rw c.in-Ask.is (c.adjtimex.result, other, c.adjtimex.ensures.answer)
+
+pub returns-in_default-adjtimex : goal.returns-in_default-adjtimex
+returns-in_default-adjtimex g c =
+    let other : c.adjtimex.result ≢ Err Memory = search rules in
+    record {
+      after = rw c.in-Ask.is (c.adjtimex.result, other, c.adjtimex.ensures.answer);
+      err = tt;
+    }

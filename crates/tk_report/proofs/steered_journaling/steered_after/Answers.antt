@@ -1,6 +1,6 @@
 use Rattle.std.proofs.Common.{◌≡◌, Ok, [], rules, subst, sym}
 use Rattle.std.proofs.lemmas.Result.{err_from_is_err_and}
-use Rattle.tk_clock.specs.Journal.{Journal}
+use Rattle.tk_keeper.specs.Keeper.{Keeper}
 use Rattle.tk_script.specs.Coming.{coming}
 use Rattle.tk_report.specs.SteeredReport.{IsSteeredJournalOfRows}
 use Rattle.tk_report.proofs.Lines.{Fails-from}
@@ -29,6 +29,6 @@ returns g c =
     let first = c.args.first in
     let all = coming c.args.rows.now in
     let none : coming c.rows.rows ≡ Ok [] = search rules in
-    subst (λ (j : Journal). IsSteeredJournalOfRows first all j)
-    (sym c.into_keeper.ensures.journal)
+    subst (λ (k : Keeper). IsSteeredJournalOfRows first all k.journal)
+    (sym c.into_keeper.ensures.keeper)
     (IsSteeredRun-end first all c.rows.clocks (coming c.rows.rows) c.rows.invariant.run none)

@@ -4,8 +4,8 @@ use Rattle.tk_script.specs.Coming.{coming}
 use Rattle.tk_script.specs.Lines.{open_line}
 use Rattle.tk_report.specs.Report.{difference, differs_text}
 use Rattle.tk_report.specs.SteeredReport.{journal_in, missed_after}
-use Rattle.tk_clock.specs.Journal.{Journal}
 use Rattle.tk_clock.specs.Snapshot.{Snapshot}
+use Rattle.tk_keeper.specs.Keeper.{Keeper}
 use Rattle.tk_report.proofs.Lines.{difference_most, Fails-from}
 use Rattle.tk_report.proofs.SteeredLines.{IsSteeredBegun, IsSteeredBegun-start, IsSteeredBegun-next, IsSteeredBegun-end}
 use Rattle.tk_report.proofs.steered_reporting.report_steered.Goals as goal
@@ -19,7 +19,7 @@ rows-init g c =
     ∙ ap (λ (t : List ℕ). t ++ open_line c.desc-desc.result) c.new-text.ensures.items
     ∙ ap open_line (c.desc-desc.ensures
     ∙ ap (λ (s : Snapshot). s.base.counter) c.snapshot.ensures.value
-    ∙ ap (λ (j : Journal). j.opening.counter) c.keeper.ensures.journal) in
+    ∙ ap (λ (k : Keeper). k.journal.opening.counter) c.keeper.ensures.keeper) in
     record {
       ready = c.requires;
       begun = rw written (IsSteeredBegun-start first (coming c.args.rows.now));

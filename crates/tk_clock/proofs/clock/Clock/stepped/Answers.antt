@@ -8,7 +8,7 @@ use Rattle.tk_clock.specs.declared.timespec.Timespec.{Timespec}
 use Rattle.tk_clock.proofs.Values.{now_of, real_offset_low}
 use Rattle.tk_clock.proofs.Settings.{stepped, step_range, step_invalid, step_none, within_boot}
 use Rattle.tk_clock.proofs.clock.Clock.stepped.Goals as goal
-use Rattle.tk_clock.proofs.clock.Clock.stepped.Goals.{After-self-inside, After-moved, then-real-monotonic-via-then-real-monotonic, then-real-monotonic-via-else-real-monotonic+then-real-settable_limit}
+use Rattle.tk_clock.proofs.clock.Clock.stepped.Goals.{After-self-inside, After-time_moved, then-real-monotonic-via-then-real-monotonic, then-real-monotonic-via-else-real-monotonic+then-real-settable_limit}
 use Rattle.tk_clock.specs.Limits.{clock_end, monotonic_end, settable_end}
 
 pub returns-then-is_past_limit : goal.returns-then-is_past_limit
@@ -32,9 +32,9 @@ overflow_add-monotonic c =
     let low = real_low (goal.at.overflow_add-monotonic c).After-self-inside in
     omega (arith, low)
 
-pub moved-requires-clause-real : goal.moved-requires-clause-real
-moved-requires-clause-real c =
-    real_low (goal.at.moved-requires-clause-real c).After-self-inside
+pub time_moved-requires-clause-real : goal.time_moved-requires-clause-real
+time_moved-requires-clause-real c =
+    real_low (goal.at.time_moved-requires-clause-real c).After-self-inside
 
 -- REALTIME after the step, by the parts that the code adds
 real_is : (state : State) (base now : ReadBase) (by : Timespec) (monotonic offset : ℕ) →
@@ -47,7 +47,7 @@ real_is state base now by monotonic offset forwarded same held amount =
     ∙ held in
     omega (arith, ints, stated, amount)
 
-moved_is : (c : After-moved) →
+moved_is : (c : After-time_moved) →
     stepped c.args.now (nanoseconds c.args.by)
     ≡ pos (c.monotonic_now-monotonic.result + c.self-inside.inside.0.0.real_offset)
     +ℤ nanoseconds c.args.by
@@ -61,7 +61,7 @@ moved_is c =
 pub returns-in_default : goal.returns-in_default
 returns-in_default c =
     let now = c.args.now in
-    let real = moved_is (goal.at.returns-in_default c).After-moved in
+    let real = moved_is (goal.at.returns-in_default c).After-time_moved in
     step_invalid c.args.self.now now c.args.cmd (nanoseconds c.args.by) c.requires.early
     c.requires.forwarded c.requires.steps c.requires.amount
     (sym c.if-is_past_limit.ensures)
@@ -74,7 +74,7 @@ returns-in_default c =
 pub returns-then-real-monotonic : goal.returns-then-real-monotonic
 returns-then-real-monotonic c =
     let now = c.args.now in
-    let real = moved_is (goal.at.returns-then-real-monotonic c).After-moved in
+    let real = moved_is (goal.at.returns-then-real-monotonic c).After-time_moved in
     let stated = c.in-Some.ensures in
     let amount = c.monotonic_now-monotonic.ensures.amount in
     step_invalid c.args.self.now now c.args.cmd (nanoseconds c.args.by) c.requires.early
@@ -92,7 +92,7 @@ returns-then-real-monotonic c =
 pub returns : goal.returns
 returns c =
     let now = c.args.now in
-    let real = moved_is (goal.at.returns c).After-moved in
+    let real = moved_is (goal.at.returns c).After-time_moved in
     let stated = c.in-Some.ensures in
     let amount = c.monotonic_now-monotonic.ensures.amount in
     let above : pos (now_of now) ≤ℤ stepped now (nanoseconds c.args.by) = let high = c.if-real-monotonic.false

@@ -1,28 +1,23 @@
-use Rattle.std.proofs.Common.{◌∙◌, ap, subst, sym}
-use Rattle.std.proofs.lemmas.Result.{err_from_is_err_and}
+use Rattle.std.proofs.Common.{◌∙◌, ap, subst, sym, false, ◌≡◌}
+use Rattle.tk_clock.specs.Command.{is_resume}
 use Rattle.tk_clock.specs.State.{State, effect}
-use Rattle.tk_ntp.specs.Followed.{IsOwedAt}
+use Rattle.tk_ntp.specs.Course.{seen}
+use Rattle.tk_ntp.specs.Followed.{IsNoEarlier, IsOwedAt}
 use Rattle.tk_ntp.specs.SteeredClock.{SteeredClock}
 use Rattle.tk_ntp.proofs.Followed.{followed_owed}
 use Rattle.tk_ntp.proofs.steered_clock.SteeredClock.follow_command.Goals as goal
 
-pub returns-in_err-apply-clause-sum : goal.returns-in_err-apply-clause-sum
-returns-in_err-apply-clause-sum c = λ plain order.
-    let p = err_from_is_err_and c.from_residual.result c.from_residual.ensures.1 in
-    rw p.1 tt
-
 pub returns-clause-sum : goal.returns-clause-sum
-returns-clause-sum c = λ plain order.
+returns-clause-sum c =
     let reading = c.args.reading in
     let cmd = c.args.cmd in
-    let with : State → SteeredClock = λ clock. record {
-      clock = clock;
-      steering = c.next.inside.steering;
-      next = c.next.inside.next;
-      mark = c.next.inside.mark;
-    } in
-    subst (IsOwedAt reading c.args.self.now)
-    (sym (ap with c.in_ok-apply.ensures.1
-    ∙ ap (λ (n : SteeredClock). record n { clock = effect n.clock reading cmd })
-    (c.next.view_is ∙ c.account.ensures)))
-    (followed_owed reading cmd c.args.self.now plain order)
+    let before = seen c.self.inside.clock c.self.inside.course in
+    let after = seen c.apply.new.self c.account.new.self in
+    subst (λ (s : SteeredClock). is_resume cmd ≡ false → IsNoEarlier reading s →
+    IsOwedAt reading s after) c.self.view_is
+    (λ plain order.
+    subst (IsOwedAt reading before)
+    (sym (ap (λ (k : State). seen k c.account.new.self) c.in_ok-apply.ensures.1
+    ∙ ap (λ (n : SteeredClock). record n { clock = effect before.clock reading cmd })
+    c.account.ensures))
+    (followed_owed reading cmd before plain order))

@@ -1,18 +1,29 @@
-use Rattle.std.proofs.Common.{rules}
-use Rattle.tk_steered.specs.Applied.{IsAppliedBy}
-use Rattle.tk_steered.proofs.Clocks.{applied-clocks}
+use Rattle.std.proofs.Common.{sym, subst}
+use Rattle.tk_clock.specs.declared.command.Command.{Command}
+use Rattle.tk_clock.specs.declared.command.Command.TheVariants.{Update}
+use Rattle.tk_steered.specs.Kept.{IsAppliedBy}
+use Rattle.tk_steered.proofs.Answered.{applied as applied_alone}
+use Rattle.tk_steered.proofs.Numbered.{applied}
 use Rattle.tk_steered.proofs.steered.Steered.apply.Goals as goal
 
-pub returns-in-Some-clause-clocks : goal.returns-in-Some-clause-clocks
-returns-in-Some-clause-clocks g c =
-    let answer : IsAppliedBy c.args.who c.args.reading c.args.cmd c.args.self.now
-    c.numbered.result c.adjtimex-answer.new.self = search rules in
-    applied-clocks c.args.who c.args.reading c.args.cmd c.args.self.now c.adjtimex-answer.new.self
-    c.numbered.result answer
+pub returns-in-Update-clause-answer : goal.returns-in-Update-clause-answer
+returns-in-Update-clause-answer g c =
+    subst (λ (cmd : Command). IsAppliedBy c.args.who c.args.reading cmd c.args.self.now
+    c.numbered.result c.apply_update-done.new.self) (sym c.in-Update.is)
+    (applied c.args.who c.args.reading Update c.args.self.now c.apply_update-done.new.self
+    c.apply_update-done.result c.numbered.result c.numbered.ensures c.apply_update-done.ensures)
 
-pub returns-in-None-clause-clocks : goal.returns-in-None-clause-clocks
-returns-in-None-clause-clocks g c =
-    let answer : IsAppliedBy c.args.who c.args.reading c.args.cmd c.args.self.now
-    c.numbered-in-None.result c.apply_plain-answer.new.self = search rules in
-    applied-clocks c.args.who c.args.reading c.args.cmd c.args.self.now
-    c.apply_plain-answer.new.self c.numbered-in-None.result answer
+pub returns-in-Update-clause-clocks : goal.returns-in-Update-clause-clocks
+returns-in-Update-clause-clocks g c =
+    applied_alone c.args.who c.args.reading c.args.cmd c.args.self.now c.apply_update-done.new.self
+    c.numbered.result (returns-in-Update-clause-answer g c)
+
+pub returns-clause-answer : goal.returns-clause-answer
+returns-clause-answer g c =
+    applied c.args.who c.args.reading c.args.cmd c.args.self.now c.apply_any-done.new.self
+    c.apply_any-done.result c.numbered-2.result c.numbered-2.ensures c.apply_any-done.ensures
+
+pub returns-clause-clocks : goal.returns-clause-clocks
+returns-clause-clocks g c =
+    applied_alone c.args.who c.args.reading c.args.cmd c.args.self.now c.apply_any-done.new.self
+    c.numbered-2.result (returns-clause-answer g c)

@@ -1,0 +1,24 @@
+-- Updates in the present second, whose end is known to be some cycles away.
+use Rattle.std.specs.Prelude.{◌≡◌, ℕ, zero, suc, ⊤, ◌+◌, ◌<◌, ◌≤◌, false}
+use Rattle.tk_clock.specs.Reach.{distance}
+use Rattle.tk_counter.specs.Counter.{half}
+use Rattle.tk_ntp.specs.Advance.{IsNoneDue}
+use Rattle.tk_ntp.specs.SteeredClock.{SteeredClock}
+
+-- no second is due at readings that are fewer than `early` cycles after the last one
+pub record IsEarlyFor (early : ℕ) (steered : SteeredClock) : Type 0 where
+  pub near : early ≤ half steered.clock.base.counter + 1
+  pub none :
+      (reading : ℕ) → distance steered.clock.base reading < early → IsNoneDue steered reading
+
+-- clocks that are awake, whose last account is at their last command, and for which no second is due
+-- for `early` cycles after it
+pub record IsInSecond (early : ℕ) (steered : SteeredClock) : Type 0 where
+  pub awake : steered.clock.base.asleep ≡ false
+  pub mark : steered.mark ≡ steered.clock.base.last
+  pub ahead : IsEarlyFor early steered
+
+-- what a number of cycles says that is kept beside steered clocks; 0 says nothing
+abbrev pub IsEarlyBy : ℕ → SteeredClock → Type 0
+IsEarlyBy zero steered = ⊤
+IsEarlyBy (suc rest) steered = IsInSecond (suc rest) steered
