@@ -13,8 +13,8 @@
 //!
 //! Units: readings in cycles, clock times in s and ns. Entries are numbered from 1. A front is the
 //! number of commands accepted up to then. Both count the folded commands. No call waits. Only
-//! `apply` while `spare()` is 0, `reserve`, `run`, `trace` and `trace_in` allocate; for an empty
-//! list `run`, `trace` and `trace_in` don't.
+//! `apply` while `spare()` is 0, `ready` while it is below its count, `reserve`, `run`, `trace` and
+//! `trace_in` allocate; for an empty list `run`, `trace` and `trace_in` don't.
 #![tactic(auto)]
 
 mod front_error;
