@@ -14,6 +14,7 @@ pub mod Contracted
 pub mod Made
 pub mod MadeUp
 pub mod Marked
+pub mod MarkedLate
 pub mod Needed
 pub mod Long
 pub mod Keeping
@@ -34,7 +35,6 @@ pub mod Scaled
 pub mod Settled
 pub mod Steady
 pub mod TaiKept
-pub mod Staged
 pub mod Due
 pub mod Multipliers
 pub mod Unchanged

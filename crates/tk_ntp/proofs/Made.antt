@@ -152,12 +152,17 @@ leapt-made at leap steered =
     (record { units = refl; same = inl refl; asleep = refl })
     (λ refusal. leapt_unless-made refusal at leap steered)
 
+-- a leap wakes no clocks
+pub leapt-asleep : (at : ℕ) (leap : Leap) (steered : SteeredClock) →
+    (leapt at leap steered).clock.base.asleep ≡ steered.clock.base.asleep
+leapt-asleep at leap steered = (leapt-made at leap steered).asleep
+
 leapt_unless-mark : (refusal : Option Refusal) (at : ℕ) (leap : Leap) (steered : SteeredClock) →
     (leapt_unless refusal at leap steered).mark ≡ steered.mark
 leapt_unless-mark (Some refusal) at leap steered = refl
 leapt_unless-mark None at leap steered = refl
 
-leapt-mark : (at : ℕ) (leap : Leap) (steered : SteeredClock) →
+pub leapt-mark : (at : ℕ) (leap : Leap) (steered : SteeredClock) →
     (leapt at leap steered).mark ≡ steered.mark
 leapt-mark at leap steered =
     leapt-by (λ (s : SteeredClock). s.mark ≡ steered.mark) at leap steered refl

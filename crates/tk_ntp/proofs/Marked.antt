@@ -1,6 +1,7 @@
 -- Where the last account is, after each call.
 use Rattle.std.proofs.Common.{◌≡◌, ◌∙◌, refl, sym, subst, ℕ, ◌≤◌, ◌⊎◌, inl, inr, Bool, true, false, not, ◌&&◌, Option, Some, None, MatchOption, nat_eq, arith}
-use Rattle.std.specs.Prelude.{Result, Ok, Err, ⊤}
+use Rattle.std.specs.Prelude.{Result, Ok, Err, ⊤, IsTrue, ◌↔◌}
+use Rattle.std.proofs.lemmas.Bool.{eq-eqb, eqb-true}
 use Rattle.std.proofs.lemmas.Grind.{common_steps}
 use Rattle.tk_counter.specs.Counter.{gap, half}
 use Rattle.tk_clock.specs.declared.command.Command.{Command}
@@ -39,12 +40,20 @@ marked_at_last s e =
           (sym e) (rw (none_here base.counter base.last) (omega arith));
     }
 
+-- clocks that sleep have it at their last command
+pub marked_asleep : (s : SteeredClock) (test : Bool) → s.clock.base.asleep ≡ true →
+    test ≡ nat_eq s.mark s.clock.base.last → IsTrue test ↔ IsMarked s
+marked_asleep s test asleep is = (
+  λ h. marked_at_last s (eqb-true s.mark s.clock.base.last (sym is ∙ h)),
+  λ h. is ∙ eq-eqb s.mark s.clock.base.last (h.asleep asleep),
+)
+
 -- with the last account at a reading
 abbrev at_mark : ℕ → SteeredClock → SteeredClock
 at_mark reading s = record s { mark = reading }
 
 -- no second is due up to a reading
-none_nearer : (reading : ℕ) (s : SteeredClock) → IsNoneDue s reading → IsNearer (at_mark reading s)
+pub none_nearer : (reading : ℕ) (s : SteeredClock) → IsNoneDue s reading → IsNearer (at_mark reading s)
 none_nearer reading s none other ahead reached =
     let base = s.clock.base in
     elim (order (distance base other) (distance base reading)) as

@@ -25,7 +25,7 @@ pub record IsNear (at : ℕ) (before after : State) : Type 0 where
 still : (at : ℕ) (clock : State) → IsNear at clock clock
 still at clock = record { counter = refl; last = inl refl }
 
-joined : (at : ℕ) (a b c : State) → IsNear at a b → IsNear at b c → IsNear at a c
+pub joined : (at : ℕ) (a b c : State) → IsNear at a b → IsNear at b c → IsNear at a c
 joined at a b c h k = record {
   counter = k.counter ∙ h.counter;
   last = elim k.last as (λ _. (c.base.last ≡ a.base.last) ⊎ (c.base.last ≡ at)) [
@@ -63,7 +63,7 @@ given_any-near : (at : ℕ) (cmd : Option Command) (clock : State) →
 given_any-near at None clock = still at clock
 given_any-near at (Some cmd) clock = given-near at cmd clock
 
-given_change-near : (at : ℕ) (change : Change) (clock : State) →
+pub given_change-near : (at : ℕ) (change : Change) (clock : State) →
     IsNear at clock (given_change at change clock)
 given_change-near at change clock =
     let ticked = given_any at (tick_command change) clock in
@@ -77,7 +77,7 @@ leapt_unless-near (Some refusal) at leap steered = still at steered.clock
 leapt_unless-near None at leap steered =
     effect-near at (leap_of_clock leap steered.clock) steered.clock
 
-leapt-near : (at : ℕ) (leap : Leap) (steered : SteeredClock) →
+pub leapt-near : (at : ℕ) (leap : Leap) (steered : SteeredClock) →
     IsNear at steered.clock (leapt at leap steered).clock
 leapt-near at leap steered =
     leapt-by (λ (s : SteeredClock). IsNear at steered.clock s.clock) at leap steered

@@ -10,7 +10,7 @@ use Rattle.tk_ntp.proofs.Made.{second-made}
 use Rattle.tk_ntp.proofs.Often.{IsNear, order-near, second-near}
 
 -- commands at an earlier reading leave a reading at most half the range ahead
-near-ahead : (at reading : ℕ) (before after : State) → IsNear at before after →
+pub near-ahead : (at reading : ℕ) (before after : State) → IsNear at before after →
     distance before.base at ≤ distance before.base reading →
     distance before.base reading ≤ half before.base.counter →
     distance after.base reading ≤ half after.base.counter

@@ -9,6 +9,7 @@ mod following;
 mod lags;
 mod leaps;
 mod loops;
+mod marks;
 mod numbers;
 mod rates;
 mod readings;

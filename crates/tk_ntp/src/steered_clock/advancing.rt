@@ -69,6 +69,8 @@ impl SteeredClock {
             × (self.new ≡ self.old)) }
         // no second up to the reading is left
         ensures none { IfOk result (λ _. IsNoneDue self.new reading) }
+        // the last account stays where the laws of the lag want it
+        ensures marked { IfOk result (λ _. IsMarked self.old → IsMarked self.new) }
     {
         self.course.advance(&mut self.clock, true, 0, reading)
     }

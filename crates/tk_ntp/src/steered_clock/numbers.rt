@@ -1,5 +1,6 @@
 //! Returns steered clocks in plain numbers, and restores them from these numbers.
-ghost use Rattle.std.specs.Prelude.{◌≡◌, Ok, IfOk};
+ghost use Rattle.std.specs.Prelude.{◌≡◌, ◌↔◌, IsTrue, Ok, IfOk};
+ghost use Rattle.tk_ntp.specs.Account.{IsMarked};
 ghost use Rattle.tk_ntp.specs.Numbers.{steered_numbers};
 ghost use Rattle.tk_ntp.specs.Restored.{steered_from};
 
@@ -24,6 +25,8 @@ impl SteeredClock {
     /// Restores steered clocks from their clocks and their numbers. Any clocks and numbers that
     /// steered clocks can be in are accepted, together or not: the caller passes those that belong
     /// together.
+    ///
+    /// `is_marked` tells whether the laws of the lag hold for them.
     ///
     /// # Errors
     ///
@@ -63,5 +66,29 @@ impl SteeredClock {
                 mark: numbers.mark,
             },
         })
+    }
+
+    /// Returns whether the last account is where the laws of the lag want it: at most half the
+    /// counter's range after the last command, at it while the clocks sleep, and not after the
+    /// beginning of the next second.
+    ///
+    /// It is there after `open` and `open_at`, and `advance`, `advance_late`, `adjtimex` and `apply`
+    /// keep it there. So it is to be asked of numbers that come from elsewhere (`from_numbers`).
+    pub fn is_marked(&self) -> bool
+        ensures { IsTrue result ↔ IsMarked self.now }
+    {
+        let now = self.snapshot(0);
+        let mark = self.course.mark();
+        if now.asleep() {
+            return mark == now.last();
+        }
+        let cycles = now.desc().gap(now.last(), mark);
+        if cycles > now.desc().half() {
+            return false;
+        }
+        match self.next_second() {
+            Some(at) => cycles <= now.desc().gap(now.last(), at),
+            None => true,
+        }
     }
 }

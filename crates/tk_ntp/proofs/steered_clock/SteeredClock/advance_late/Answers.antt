@@ -1,11 +1,14 @@
 use Rattle.std.proofs.Common.{◌≡◌, refl, subst, true}
 use Rattle.std.specs.Prelude.{Ok, Err, MatchOption}
+use Rattle.tk_ntp.specs.Account.{IsMarked}
 use Rattle.tk_ntp.specs.Advance.{IsNoneDue}
 use Rattle.tk_ntp.specs.Course.{seen}
 use Rattle.tk_ntp.specs.Late.{second_begun_late, IsAdvancedLate}
 use Rattle.tk_ntp.specs.SteeredClock.{SteeredClock, reading_refusal}
+use Rattle.tk_ntp.proofs.Accepted.{ahead_at, awake_at}
 use Rattle.tk_ntp.proofs.Alone.{arrived}
 use Rattle.tk_ntp.proofs.Laws.{arrived_answer, arrived_holds}
+use Rattle.tk_ntp.proofs.MarkedLate.{marked_late}
 use Rattle.tk_ntp.proofs.Often.{none_left}
 use Rattle.tk_ntp.proofs.steered_clock.SteeredClock.advance_late.Goals as goal
 
@@ -36,3 +39,13 @@ returns-clause-none c =
     arrived_holds (λ at. second_begun_late at c.args.reading) (IsNoneDue end c.args.reading) c.args.reading s end
     c.advance.result (reading_refusal c.args.reading s) refl (told c)
     (λ accepted chain. none_left (λ at. second_begun_late at c.args.reading) c.args.reading s end chain)
+
+pub returns-clause-marked : goal.returns-clause-marked
+returns-clause-marked c =
+    let s = c.args.self.now in
+    let end = seen c.advance.new.clocks c.advance.new.self in
+    arrived_holds (λ at. second_begun_late at c.args.reading) (IsMarked s → IsMarked end)
+    c.args.reading s end c.advance.result (reading_refusal c.args.reading s) refl (told c)
+    (λ accepted chain. λ marked.
+    marked_late c.args.reading s end chain (ahead_at c.args.reading s accepted)
+    (awake_at c.args.reading s accepted) marked)
