@@ -6,7 +6,7 @@ ghost use Rattle.tk_clock.specs.Reach.{IsFirstReached, IsNeverReached};
 ghost use Rattle.tk_clock.specs.Time.{nanoseconds};
 ghost use Rattle.tk_ntp.specs.Advance.{second_time, IsDue, IsNoneDue};
 ghost use Rattle.tk_ntp.specs.Course.{seen};
-ghost use Rattle.tk_ntp.specs.Early.{IsEarlyFor};
+ghost use Rattle.tk_ntp.specs.Early.{IsEarlyFor, IsToSecond};
 ghost use Rattle.tk_ntp.specs.Staged.{IsEarly, IsInOrder, IsSettled};
 ghost use Rattle.tk_ntp.specs.SteeredClock.{reading_refusal};
 
@@ -110,7 +110,8 @@ impl Course {
     /// Returns a number of cycles: no second is due at readings that are fewer cycles after the last
     /// one. They are those to the beginning of the next second, or one more than the longest gap.
     pub fn cycles_to_second(&self, clock: &Clock) -> u64
-        ensures { IsEarlyFor result (seen clock.now self.now) }
+        ensures exact { IsToSecond result (seen clock.now self.now) }
+        ensures early { IsEarlyFor result (seen clock.now self.now) }
     {
         let now = clock.snapshot(0);
         match self.next_second(clock) {
