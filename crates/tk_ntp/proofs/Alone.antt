@@ -1,7 +1,7 @@
 -- Clocks by themselves, which always have room: what is done to whatever keeps clocks is done to
 -- them.
 use Rattle.std.proofs.Common.{◌≡◌, refl, ℕ, Bool, true, false, inl, inr, List}
-use Rattle.std.specs.Prelude.{⊤, ◌⊎◌, Option, Some, None, Result, Ok, Err, MatchOption, MatchResult}
+use Rattle.std.specs.Prelude.{⊤, Option, Some, None, Result, Ok, Err, MatchOption, MatchResult}
 use Rattle.tk_clock.specs.declared.command.Command.{Command}
 use Rattle.tk_clock.specs.declared.command.Entry.{Entry}
 use Rattle.tk_clock.specs.declared.refusal.Refusal.{Refusal}
@@ -10,11 +10,11 @@ use Rattle.tk_clock.specs.State.{State}
 use Rattle.tk_ntp.specs.declared.reply.Reply.{Reply}
 use Rattle.tk_ntp.specs.declared.timex.Timex.{Timex}
 use Rattle.tk_ntp.specs.Advance.{IsAdvanced, IsAdvancedBy}
-use Rattle.tk_ntp.specs.Applied.{IsApplied, IsFollowed, IsPlain, request_of, without_reply}
+use Rattle.tk_ntp.specs.Applied.{IsApplied, IsPlain, request_of, without_reply}
 use Rattle.tk_ntp.specs.Asked.{IsAnswered, IsAsked, IsCommanded, first_fault}
 use Rattle.tk_ntp.specs.Course.{Course, seen}
 use Rattle.tk_ntp.specs.Entries.{second_begun}
-use Rattle.tk_ntp.specs.Keeping.{HasArrivedOr, IsAdvancedTo, IsAnsweredTo, IsAppliedTo, IsAskedTo, IsCommandedTo, IsDirectTo, IsFollowedTo, IsFollowing, IsPlainTo, IsUnmade, request_most, second_most}
+use Rattle.tk_ntp.specs.Keeping.{HasArrivedOr, IsAdvancedTo, IsAnsweredTo, IsAppliedTo, IsAskedTo, IsCommandedTo, IsDirectTo, IsFollowing, IsPlainTo, IsUnmade, request_most, second_most}
 use Rattle.tk_ntp.specs.SteeredClock.{SteeredClock, reading_refusal}
 use Rattle.tk_ntp.proofs.SeenBy.{advanced, asked, commanded, same_seen}
 

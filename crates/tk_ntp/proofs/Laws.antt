@@ -1,11 +1,10 @@
 -- The laws of the accounts and of the lag, after any request or command.
-use Rattle.std.proofs.Common.{◌≡◌, ◌∙◌, ap, refl, sym, subst, inl, inr, ℕ, Bool, true, false, Option, Some, None}
+use Rattle.std.proofs.Common.{◌≡◌, ◌∙◌, ap, refl, sym, subst, inl, inr, ℕ, true, false, Option, Some, None}
 use Rattle.std.specs.Prelude.{⊤, Result, Ok, Err, MatchOption, MatchResult, IfOk, if◌then◌else◌}
 use Rattle.tk_clock.specs.declared.command.Command.{Command}
 use Rattle.tk_clock.specs.declared.refusal.Refusal.{Refusal}
 use Rattle.tk_clock.specs.declared.refusal.Refusal.TheVariants.{Invalid}
 use Rattle.tk_clock.specs.Command.{is_resume}
-use Rattle.tk_clock.specs.Refusal.{first_of}
 use Rattle.tk_ntp.specs.declared.reply.Reply.{Reply}
 use Rattle.tk_ntp.specs.declared.timex.Timex.{Timex}
 use Rattle.tk_ntp.specs.Account.{owed, sets_by, sets_by_step, IsBalanced, IsMarked}

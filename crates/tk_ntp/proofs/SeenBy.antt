@@ -1,19 +1,17 @@
 -- What calls to whatever keeps the clocks do to clocks with their discipline.
-use Rattle.std.proofs.Common.{◌≡◌, ◌∙◌, ap, subst, ℕ, Bool, false, inl, inr, List}
+use Rattle.std.proofs.Common.{◌≡◌, ◌∙◌, ap, subst, ℕ, Bool, List}
 use Rattle.std.specs.Prelude.{⊤, Option, Some, None, Result, Ok, Err, MatchOption, IfOk}
 use Rattle.tk_clock.specs.declared.command.Command.{Command}
 use Rattle.tk_clock.specs.declared.command.Entry.{Entry}
 use Rattle.tk_clock.specs.declared.refusal.Refusal.{Refusal}
-use Rattle.tk_clock.specs.declared.timespec.Timespec.{Timespec}
 use Rattle.tk_clock.specs.State.{State}
 use Rattle.tk_ntp.specs.declared.reply.Reply.{Reply}
 use Rattle.tk_ntp.specs.declared.timex.Timex.{Timex}
-use Rattle.tk_ntp.specs.Advance.{Arrived, Begins as BeginsOne, IsAdvanced, IsAdvancedBy, IsNoneDue}
-use Rattle.tk_ntp.specs.Applied.{IsApplied, IsFollowed, IsPlain, request_of, without_reply}
-use Rattle.tk_ntp.specs.Asked.{IsAnswered, IsAsked, IsCommanded, IsRequested, first_fault, step_refusal, stepped}
+use Rattle.tk_ntp.specs.Advance.{Arrived, Begins as BeginsOne, IsAdvancedBy, IsNoneDue}
+use Rattle.tk_ntp.specs.Asked.{IsAsked, IsCommanded, IsRequested, step_refusal, stepped}
 use Rattle.tk_ntp.specs.Course.{Course, seen}
 use Rattle.tk_ntp.specs.Entries.{second_begun}
-use Rattle.tk_ntp.specs.Keeping.{Begins, HasArrived, HasArrivedOr, HasBegun, IsAdvancedTo, IsAnsweredTo, IsAskedTo, IsCommandedTo, IsDirectTo, IsFollowedTo, IsFollowing, IsReady, IsRequestedTo, IsSteppedTo, IsUnmade, Still, request_most, second_most}
+use Rattle.tk_ntp.specs.Keeping.{Begins, HasArrived, HasArrivedOr, HasBegun, IsAdvancedTo, IsAskedTo, IsCommandedTo, IsReady, IsRequestedTo, IsSteppedTo, Still, request_most, second_most}
 use Rattle.tk_ntp.specs.Request.{step_of}
 use Rattle.tk_ntp.specs.SteeredClock.{SteeredClock, reading_refusal}
 

@@ -1,7 +1,7 @@
 -- A discipline gives its commands to whatever keeps the clocks: `state` is what the clocks are,
 -- `is_after` says which accepted entries came, `has_room` whether there is room for more of them, and
 -- `is_short` why there isn't.
-use Rattle.std.specs.Prelude.{◌≡◌, ◌⊎◌, ℕ, ⊤, Bool, true, false, Option, Some, None, Result, Err, MatchOption, MatchResult, List, []}
+use Rattle.std.specs.Prelude.{◌≡◌, ◌⊎◌, ℕ, ⊤, Bool, true, false, Option, Result, Err, MatchOption, MatchResult, List, []}
 use Rattle.tk_clock.specs.declared.command.Command.{Command}
 use Rattle.tk_clock.specs.declared.command.Entry.{Entry}
 use Rattle.tk_clock.specs.declared.refusal.Refusal.{Refusal}

@@ -1,11 +1,9 @@
 -- Seconds of REALTIME that begin late: the clocks get all commands at the reading of the call, for
 -- clocks that others have read meanwhile.
-use Rattle.std.specs.Prelude.{◌≡◌, ℕ, nat_lt, Option, MatchOption, if◌then◌else◌}
+use Rattle.std.specs.Prelude.{ℕ, nat_lt, if◌then◌else◌}
 use Rattle.tk_counter.specs.Counter.{half, gap}
-use Rattle.tk_ntp.specs.declared.leap.Leap.{Leap}
-use Rattle.tk_ntp.specs.Advance.{leapt, with_next_second, IsAdvancedBy, IsDue, IsNoneDue}
+use Rattle.tk_ntp.specs.Advance.{leapt, with_next_second, IsAdvancedBy}
 use Rattle.tk_ntp.specs.Second.{leap_at}
-use Rattle.tk_ntp.specs.Staged.{leap_made}
 use Rattle.tk_ntp.specs.SteeredClock.{SteeredClock, accounted_to, steered_at}
 
 -- the reading at which a late second begins: its own, or the last account if that is later
@@ -26,15 +24,6 @@ second_begun_late at reading steered =
     steered_at reading
     (leapt reading (leap_at steered.steering.ntp steered.next)
     (with_late_second at reading steered))
-
--- just the next second began late, if REALTIME reaches it up to a reading
-abbrev pub IsOneBegunLate : ℕ → SteeredClock → Option Leap → SteeredClock → Type 0
-IsOneBegunLate reading before result after =
-    MatchOption result
-    (IsNoneDue before reading × (after ≡ before))
-    (λ leap. (at : ℕ) × IsDue before reading at
-    × (leap ≡ leap_made reading before)
-    × (after ≡ second_begun_late at reading before))
 
 -- a state after each second of REALTIME up to a reading has begun late, one after the other
 abbrev pub IsAdvancedLate : ℕ → SteeredClock → SteeredClock → Type 0

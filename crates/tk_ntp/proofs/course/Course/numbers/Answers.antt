@@ -1,9 +1,4 @@
-use Rattle.std.proofs.Common.{◌≡◌, subst, sym, ap}
-use Rattle.std.specs.Prelude.{Ok}
 use Rattle.tk_ntp.specs.Course.{Course, seen}
-use Rattle.tk_ntp.specs.Numbers.{steered_numbers}
-use Rattle.tk_ntp.specs.Restored.{steered_from}
-use Rattle.tk_ntp.specs.SteeredClock.{SteeredClock}
 use Rattle.tk_ntp.proofs.Restored.{steered_back}
 use Rattle.tk_ntp.proofs.course.Course.numbers.Goals as goal
 
