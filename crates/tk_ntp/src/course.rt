@@ -6,6 +6,7 @@ mod advancing;
 mod asking;
 mod commanding;
 mod due;
+mod following;
 mod giving;
 
 use crate::change::Change;
@@ -108,8 +109,9 @@ impl Course {
         self.mark = reading;
     }
 
-    /// Returns the change that gives the clocks the rate that the present second needs.
-    pub(crate) fn needed_change(&self, clock: &Clock) -> Change
+    /// Returns the change that gives the clocks the rate that the present second needs: a command
+    /// for the tick and one for the frequency, unless the rate in force gives the same multiplier.
+    pub fn needed_change(&self, clock: &Clock) -> Change
         ensures { result
             ≡ commands clock.now.base.counter (rate_in_force clock.now) self.now.steering }
     {

@@ -2,7 +2,6 @@ ghost use Rattle.std.specs.Prelude.{◌≡◌, ◌≤◌, ◌*ℤ◌, ◌≤ℤ�
 
 mod advancing;
 mod asking;
-mod following;
 mod numbers;
 mod uptime;
 

@@ -15,6 +15,7 @@ use Rattle.tk_clock.specs.Time.{nanoseconds, timespec_of}
 use Rattle.tk_clock.proofs.Effects.{effect-last}
 use Rattle.tk_clock.proofs.Ledger.{clock_refusal-state}
 use Rattle.tk_clock.proofs.Legal.{opened-folded, state_of-followed_by}
+use Rattle.tk_ntp.specs.Course.{Course, course_of, seen}
 use Rattle.tk_ntp.specs.Followed.{HasFollowed, followed}
 use Rattle.tk_ntp.specs.SteeredClock.{SteeredClock, steered_opened, steered_refusal}
 use Rattle.tk_shared.specs.Callers.{HasRead, Known, entry_of}
@@ -58,6 +59,24 @@ is_opened journal entry real whole none same =
     empty
     ∙ ap (λ (s : ℕ). opened_with counter s (nanoseconds before)) (sym last)
     ∙ ap (opened_with counter (base_of journal).last) (sym offset)
+
+-- clocks and the course of their discipline, one by one, are those of steered clocks
+same_steered : (steered : SteeredClock) (clock : State) (course : Course) →
+    clock ≡ steered.clock → course ≡ course_of steered → seen clock course ≡ steered
+same_steered steered clock course e f =
+    ap (λ (c : State). seen c course) e ∙ ap (seen steered.clock) f
+
+-- so what follows a command from them follows it from these
+pub followed_from : (steered after : SteeredClock) (clock : State) (course : Course) (reading : ℕ)
+    (result : Result ⊤ Refusal) → clock ≡ steered.clock → course ≡ course_of steered →
+    HasFollowed (state_refusal clock reading Update) (followed reading Update (seen clock course))
+    (seen clock course) result after →
+    HasFollowed (state_refusal steered.clock reading Update) (followed reading Update steered) steered
+    result after
+followed_from steered after clock course reading result e f =
+    subst (λ (b : SteeredClock).
+    HasFollowed (state_refusal b.clock reading Update) (followed reading Update b) b result after)
+    (same_steered steered clock course e f)
 
 -- the first command of a history whose clocks a snapshot shows, and clocks that follow it
 pub opened_as : (hz : ℕ) (old middle new : Known) (snapshot : Snapshot) (reading : ℕ)

@@ -5,7 +5,8 @@ mod opening;
 
 use crate::fault::SteeringFault;
 use std::marker::Model;
-use tk_ntp::{Reply, SteeredClock, Timex};
+use tk_clock::Clock;
+use tk_ntp::{Course, Reply, SteeredClock, Timex};
 use tk_shared::{Caller, Named};
 
 /// Owns a discipline over the clocks of a shared keeper, and the caller that gives its commands.
@@ -17,19 +18,22 @@ use tk_shared::{Caller, Named};
 pub struct SharedSteering<L: Named> {
     caller: Caller<L>,
     /// Contains the clocks of the entries that the discipline has followed.
-    clock: SteeredClock,
+    clock: Clock,
+    /// Contains the course of the discipline.
+    course: Course,
     /// The number of these entries.
     count: u64,
 }
 
 impl<L: Named> Model for SharedSteering<L> {
+    ghost use Rattle.tk_ntp.specs.Course.{seen};
     ghost use Rattle.tk_shared_steered.specs.Owner.{Owner, owner_of, IsInStepIfKnown};
 
     ghost Value = { Owner };
 
-    ghost view = { λ a. owner_of a.caller a.clock a.count };
+    ghost view = { λ a. owner_of a.caller (seen a.clock a.course) a.count };
 
-    ghost invariant = { λ a. IsInStepIfKnown (owner_of a.caller a.clock a.count) };
+    ghost invariant = { λ a. IsInStepIfKnown (owner_of a.caller (seen a.clock a.course) a.count) };
 }
 
 impl<L: Named> SharedSteering<L> {
@@ -55,11 +59,11 @@ impl<L: Named> SharedSteering<L> {
     pub fn clock(&self) -> SteeredClock
         ensures { result ≡ self.now.clock }
     {
-        self.clock
+        SteeredClock::with_course(self.clock, self.course)
     }
 
     /// Does what a request without a fault asks the discipline for, at the reading of the last
-    /// command, and returns the reply (`SteeredClock::ask_alone`). It neither steps REALTIME nor
+    /// command, and returns the reply (`Course::ask_alone`). It neither steps REALTIME nor
     /// sets the TAI offset, and gives no command.
     ///
     /// Call `begin_late` first, so that the request acts at the present, and again after it, so
@@ -68,7 +72,7 @@ impl<L: Named> SharedSteering<L> {
     /// # Errors
     ///
     /// - `Foreign`: another caller's command was seen. Nothing changes.
-    /// - `Refused`: the errors of `SteeredClock::ask_alone`. Nothing changes.
+    /// - `Refused`: the errors of `Course::ask_alone`. Nothing changes.
     pub fn ask(&mut self, request: &Timex) -> Result<Reply, SteeringFault>
         requires sound { is_faulty request.now ≡ false }
         ensures answer { IsAsked request.now self.old result self.new }
@@ -76,7 +80,7 @@ impl<L: Named> SharedSteering<L> {
         if self.is_lost() {
             return Err(SteeringFault::Foreign);
         }
-        match self.clock.ask_alone(request) {
+        match self.course.ask_alone(&self.clock, request) {
             Ok(reply) => Ok(reply),
             Err(refusal) => Err(SteeringFault::Refused(refusal)),
         }
@@ -87,6 +91,7 @@ impl<L: Named> SharedSteering<L> {
     pub fn into_parts(self) -> (Caller<L>, SteeredClock)
         ensures parts { (result.0 ≡ self.caller) × (result.1 ≡ self.clock) }
     {
-        (self.caller, self.clock)
+        let clock = self.clock();
+        (self.caller, clock)
     }
 }

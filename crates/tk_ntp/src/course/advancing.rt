@@ -71,7 +71,7 @@ impl Course {
         ensures fewer { seconds_left (seen (C.state clocks.new) self.new)
             < seconds_left (seen (C.state clocks.old) self.old) }
     {
-        let leap = self.begin_alone(clocks.clock(), is_late, reading, at);
+        let leap = self.pass_second(clocks.clock(), is_late, reading, at);
         let given = given_at(is_late, reading, at);
         self.leap(clocks, who, given, leap);
         self.steer(clocks, who, given);
@@ -79,7 +79,7 @@ impl Course {
 
     /// Lets the discipline's next second, due at the reading `at`, begin, and returns its leap. It
     /// gives no command.
-    fn begin_alone(&mut self, clock: &Clock, is_late: bool, reading: u64, at: u64) -> Leap
+    fn pass_second(&mut self, clock: &Clock, is_late: bool, reading: u64, at: u64) -> Leap
         requires { self.old.next < clock_end }
         ensures seen { seen clock.now self.new
             ≡ with_second is_late reading at (seen clock.now self.old) }

@@ -88,8 +88,10 @@ impl<L: Named> SharedSteering<L> {
             (λ leap. seconds_left_after leap self.new.clock < seconds_left self.old.clock)) }
     {
         let reading = give(rt, keeper, &mut self.caller, Command::Update)?;
-        let leap = self.clock.begin_alone(reading);
-        let _accepted = self.clock.follow_command(reading, Command::Update);
+        let leap = self.course.begin_alone(&self.clock, reading);
+        let _accepted = self
+            .course
+            .follow_command(&mut self.clock, reading, Command::Update);
         self.count = self.caller.front();
         Ok(leap)
     }
@@ -117,7 +119,7 @@ impl<L: Named> SharedSteering<L> {
         }
         let cmd = leap.command(self.clock.snapshot(0).tai());
         let reading = give(rt, keeper, &mut self.caller, cmd)?;
-        let _accepted = self.clock.follow_leap(reading, leap);
+        let _accepted = self.course.follow_leap(&mut self.clock, reading, leap);
         self.count = self.caller.front();
         Ok(())
     }
@@ -133,7 +135,7 @@ impl<L: Named> SharedSteering<L> {
             (λ _. IsSteered self.old self.new)
             (λ fault. StaysAfterTick fault self.old self.new) }
     {
-        let change = self.clock.needed_change();
+        let change = self.course.needed_change(&self.clock);
         self.set(rt, keeper, change.tick_command())?;
         self.set(rt, keeper, change.frequency_command())
     }
@@ -156,7 +158,7 @@ impl<L: Named> SharedSteering<L> {
             return Ok(());
         };
         let reading = give(rt, keeper, &mut self.caller, cmd)?;
-        let _accepted = self.clock.follow_command(reading, cmd);
+        let _accepted = self.course.follow_command(&mut self.clock, reading, cmd);
         self.count = self.caller.front();
         Ok(())
     }

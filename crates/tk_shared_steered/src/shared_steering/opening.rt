@@ -37,17 +37,20 @@ impl<L: Named> SharedSteering<L> {
     {
         let mut caller = caller;
         let now = keeper.read(rt, &mut caller);
-        let mut clock = match shown(&now, hz) {
-            Ok(clock) => clock,
+        let steered = match shown(&now, hz) {
+            Ok(steered) => steered,
             Err(fault) => return Err(Unsteered { fault, caller }),
         };
         match give(rt, keeper, &mut caller, Command::Update) {
             Ok(reading) => {
-                let _accepted = clock.follow_command(reading, Command::Update);
+                let mut clock = steered.clock();
+                let mut course = steered.course();
+                let _accepted = course.follow_command(&mut clock, reading, Command::Update);
                 let count = caller.front();
                 Ok(SharedSteering {
                     caller,
                     clock,
+                    course,
                     count,
                 })
             }

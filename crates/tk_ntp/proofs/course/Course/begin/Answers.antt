@@ -5,7 +5,7 @@ use Rattle.tk_clock.specs.State.{State}
 use Rattle.tk_ntp.specs.declared.leap.Leap.{Leap}
 use Rattle.tk_ntp.specs.Advance.{leapt, seconds_left}
 use Rattle.tk_ntp.specs.Course.{seen}
-use Rattle.tk_ntp.specs.Entries.{given_at, leap_entries, rate_entries, second_begun, second_entries, with_second}
+use Rattle.tk_ntp.specs.Entries.{given_at, leap_entries, rate_entries, with_second}
 use Rattle.tk_ntp.specs.Second.{leap_at}
 use Rattle.tk_ntp.specs.SteeredClock.{SteeredClock, steered_at}
 use Rattle.tk_ntp.proofs.Keeping.{fewer_left, second_made}
@@ -17,12 +17,12 @@ start g c = seen (g.C.Clocks.state c.args.clocks.now) c.args.self.now
 
 -- the second has begun in the discipline
 begun : (g : _) (c : goal.After-steer g) →
-    seen (g.C.Clocks.state c.args.clocks.now) c.begin_alone-leap.new.self
+    seen (g.C.Clocks.state c.args.clocks.now) c.pass_second-leap.new.self
     ≡ with_second c.args.is_late c.args.reading c.args.at (start g c)
 begun g c =
-    subst (λ (k : State). seen k c.begin_alone-leap.new.self
+    subst (λ (k : State). seen k c.pass_second-leap.new.self
     ≡ with_second c.args.is_late c.args.reading c.args.at (seen k c.args.self.now))
-    c.clock.ensures c.begin_alone-leap.ensures.seen
+    c.clock.ensures c.pass_second-leap.ensures.seen
 
 -- the clocks after the leap
 led : (g : _) (c : goal.After-steer g) →
@@ -33,10 +33,10 @@ led : (g : _) (c : goal.After-steer g) →
 led g c =
     let given = given_at c.args.is_late c.args.reading c.args.at in
     let leap = leap_at c.args.self.now.steering.ntp c.args.self.now.next in
-    let here = seen (g.C.Clocks.state c.args.clocks.now) c.begin_alone-leap.new.self in
+    let here = seen (g.C.Clocks.state c.args.clocks.now) c.pass_second-leap.new.self in
     c.leap.ensures.seen
-    ∙ ap (λ at. leapt at c.begin_alone-leap.result here) c.given_at-given.ensures
-    ∙ ap (λ (l : Leap). leapt given l here) c.begin_alone-leap.ensures.leap
+    ∙ ap (λ at. leapt at c.pass_second-leap.result here) c.given_at-given.ensures
+    ∙ ap (λ (l : Leap). leapt given l here) c.pass_second-leap.ensures.leap
     ∙ ap (leapt given leap) (begun g c)
 
 pub returns-clause-seen : goal.returns-clause-seen
@@ -57,12 +57,12 @@ returns-clause-entries g c =
     let here = c.args.clocks.now in
     let middle = c.leap.new.clocks in
     let end = c.steer.new.clocks in
-    let at_once = seen (kept.state here) c.begin_alone-leap.new.self in
+    let at_once = seen (kept.state here) c.pass_second-leap.new.self in
     let with = with_second c.args.is_late c.args.reading c.args.at (start g c) in
-    let leaps : leap_entries who c.given_at-given.result c.begin_alone-leap.result at_once
+    let leaps : leap_entries who c.given_at-given.result c.pass_second-leap.result at_once
     ≡ leap_entries who given leap with =
-    ap (λ at. leap_entries who at c.begin_alone-leap.result at_once) c.given_at-given.ensures
-    ∙ ap (λ (l : Leap). leap_entries who given l at_once) c.begin_alone-leap.ensures.leap
+    ap (λ at. leap_entries who at c.pass_second-leap.result at_once) c.given_at-given.ensures
+    ∙ ap (λ (l : Leap). leap_entries who given l at_once) c.pass_second-leap.ensures.leap
     ∙ ap (leap_entries who given leap) (begun g c) in
     let rates : rate_entries who c.given_at-given.result (seen (kept.state middle) c.leap.new.self)
     ≡ rate_entries who given (leapt given leap with) =

@@ -1,8 +1,7 @@
-use Rattle.std.proofs.Common.{◌≡◌, refl, sym, subst, false, ℕ, ◌+◌, Bool, List, []}
+use Rattle.std.proofs.Common.{◌≡◌, refl, subst, false, ◌+◌}
 use Rattle.std.specs.Prelude.{ℤ}
 use Rattle.tk_clock.specs.declared.command.Command.{Command}
 use Rattle.tk_clock.specs.declared.command.Command.TheVariants.{Update, SetTime, Step, Leap, Freq, Tick, Tai, Suspend, Resume}
-use Rattle.tk_clock.specs.declared.command.Entry.{Entry}
 use Rattle.tk_clock.specs.declared.timespec.Timespec.{Timespec}
 use Rattle.tk_clock.specs.Command.{is_resume}
 use Rattle.tk_clock.specs.Limits.{sets_real}

@@ -1,6 +1,7 @@
 use Rattle.std.proofs.Common.{◌≡◌, ap, refl, sym, subst, ◌∙◌, false, Ok, Err}
 use Rattle.std.specs.Prelude.{Result}
 use Rattle.tk_clock.specs.declared.refusal.Refusal.{Refusal}
+use Rattle.tk_ntp.specs.Course.{seen}
 use Rattle.tk_ntp.specs.declared.reply.Reply.{Reply}
 use Rattle.tk_ntp.specs.declared.timex.Timex.{Timex}
 use Rattle.tk_ntp.specs.Followed.{IsAskedAlone}
@@ -61,21 +62,21 @@ ask_alone-requires g c = record { sound = c.requires.sound }
 pub invariant_of-self : goal.invariant_of-self
 invariant_of-self g c =
     let inside = c.self.inside in
-    asked_in_step c.args.request.now (owner_of inside.caller inside.clock inside.count)
-    c.ask_alone.result c.ask_alone.new.self c.ask_alone.ensures c.self.invariant
+    asked_in_step c.args.request.now (owner_of inside.caller (seen inside.clock inside.course) inside.count)
+    c.ask_alone.result (seen c.self.inside.clock c.ask_alone.new.self) c.ask_alone.ensures c.self.invariant
 
 pub returns : goal.returns
 returns g c =
     let inside = c.self.inside in
-    let here = owner_of inside.caller inside.clock inside.count in
+    let here = owner_of inside.caller (seen inside.clock inside.course) inside.count in
     let known = sym c.is_lost.ensures.value ∙ c.if-is_lost.false in
     elim c.match-ask_alone.branch [
       | in-Ok w ↦ rw w.result-is (record {
         answer = asked_ok c.args.request.now here c.args.self.now w.in-Ok.reply
-            c.ask_alone.new.self c.self.view_is known w.in-Ok.ensures;
+            (seen c.self.inside.clock c.ask_alone.new.self) c.self.view_is known w.in-Ok.ensures;
       })
       | in-Err w ↦ rw w.result-is (record {
         answer = asked_err c.args.request.now here c.args.self.now w.in-Err.refusal
-            c.ask_alone.new.self c.self.view_is known w.in-Err.ensures;
+            (seen c.self.inside.clock c.ask_alone.new.self) c.self.view_is known w.in-Err.ensures;
       })
     ]

@@ -5,6 +5,7 @@ use Rattle.tk_clock.specs.declared.command.Command.{Command}
 use Rattle.tk_clock.specs.Limits.{clock_end}
 use Rattle.tk_clock.specs.Snapshot.{Snapshot}
 use Rattle.tk_clock.specs.State.{State}
+use Rattle.tk_ntp.specs.Course.{seen}
 use Rattle.tk_ntp.specs.declared.leap.Leap.{Leap}
 use Rattle.tk_ntp.specs.declared.leap.Leap.TheVariants.{None as NoLeap}
 use Rattle.tk_ntp.specs.Advance.{leap_of_clock}
@@ -46,7 +47,7 @@ pub invariant_of-self : goal.invariant_of-self
 invariant_of-self g c =
     let inside = c.self.inside in
     stopped_in_step c.command-cmd.result c.in_err-reading.field-0.0
-    (owner_of inside.caller inside.clock inside.count) c.args.self.now c.give.new.caller
+    (owner_of inside.caller (seen inside.clock inside.course) inside.count) c.args.self.now c.give.new.caller
     c.self.view_is c.self.invariant c.requires.known c.in_err-reading.ensures.answer
 
 pub returns-in_err-reading-clause-answer : goal.returns-in_err-reading-clause-answer
@@ -55,10 +56,10 @@ returns-in_err-reading-clause-answer g c =
     let p = err_from_is_err_and c.from_residual.result c.from_residual.ensures.1 in
     let other : (c.in-Some.leap ≡ NoLeap → ⊥) = search rules in
     rw (p.1, p.2) (stopped_at_leap c.in-Some.leap c.args.leap c.command-cmd.result
-    c.in_err-reading.field-0.0 (owner_of inside.caller inside.clock inside.count) c.args.self.now
+    c.in_err-reading.field-0.0 (owner_of inside.caller (seen inside.clock inside.course) inside.count) c.args.self.now
     c.give.new.caller c.in-Some.is other
     (command_is c.in-Some.leap c.tai.result c.command-cmd.result c.snapshot.result
-    inside.clock.clock c.command-cmd.ensures c.tai.ensures c.snapshot.ensures) c.self.view_is
+    inside.clock c.command-cmd.ensures c.tai.ensures c.snapshot.ensures) c.self.view_is
     c.in_err-reading.ensures.answer)
 
 pub returns-in_err-reading-clause-known : goal.returns-in_err-reading-clause-known
@@ -77,35 +78,35 @@ can_leap leap given here old some is h =
 pub follow_leap-accepted-requires-clause-some : goal.follow_leap-accepted-requires-clause-some
 follow_leap-accepted-requires-clause-some g c =
     let inside = c.self.inside in
-    (can_leap c.in-Some.leap c.args.leap (owner_of inside.caller inside.clock inside.count)
+    (can_leap c.in-Some.leap c.args.leap (owner_of inside.caller (seen inside.clock inside.course) inside.count)
     c.args.self.now c.in-Some.is c.self.view_is c.requires.next).0
 
 pub follow_leap-accepted-requires-clause-early : goal.follow_leap-accepted-requires-clause-early
 follow_leap-accepted-requires-clause-early g c =
     let inside = c.self.inside in
-    (can_leap c.in-Some.leap c.args.leap (owner_of inside.caller inside.clock inside.count)
+    (can_leap c.in-Some.leap c.args.leap (owner_of inside.caller (seen inside.clock inside.course) inside.count)
     c.args.self.now c.in-Some.is c.self.view_is c.requires.next).1
 
 abbrev Here : (g : Over) → goal.After-self-1 g → Owner
-Here g c = owner_of c.self.inside.caller c.self.inside.clock c.self.inside.count
+Here g c = owner_of c.self.inside.caller (seen c.self.inside.clock c.self.inside.course) c.self.inside.count
 
 step : (g : Over) (c : goal.After-self-1 g) → IsInStep (Here g c)
 step g c = c.self.invariant (subst IsFollowing (sym c.self.view_is) c.requires.known)
 
 abbrev New : (g : Over) → goal.After-self-1 g → Owner
-New g c = owner_of c.give.new.caller c.follow_leap-accepted.new.self c.front-self-inside.result
+New g c = owner_of c.give.new.caller (seen c.follow_leap-accepted.new.clock c.follow_leap-accepted.new.self) c.front-self-inside.result
 
 cmd_is : (g : Over) (c : goal.After-self-1 g) →
-    c.command-cmd.result ≡ leap_of_clock c.in-Some.leap c.self.inside.clock.clock
+    c.command-cmd.result ≡ leap_of_clock c.in-Some.leap c.self.inside.clock
 cmd_is g c =
     command_is c.in-Some.leap c.tai.result c.command-cmd.result c.snapshot.result
-    c.self.inside.clock.clock c.command-cmd.ensures c.tai.ensures c.snapshot.ensures
+    c.self.inside.clock c.command-cmd.ensures c.tai.ensures c.snapshot.ensures
 
 given : (g : Over) (c : goal.After-self-1 g) →
-    IsTaken (leap_of_clock c.in-Some.leap c.self.inside.clock.clock) c.in_ok-reading.reading
-    (leap_followed c.in_ok-reading.reading c.in-Some.leap) c.self.inside.clock (Here g c) (New g c)
+    IsTaken (leap_of_clock c.in-Some.leap c.self.inside.clock) c.in_ok-reading.reading
+    (leap_followed c.in_ok-reading.reading c.in-Some.leap) (seen c.self.inside.clock c.self.inside.course) (Here g c) (New g c)
 given g c =
-    let s = c.self.inside.clock in
+    let s = (seen c.self.inside.clock c.self.inside.course) in
     let leap = c.in-Some.leap in
     let reading = c.in_ok-reading.reading in
     taken (Here g c) (New g c) (leap_of_clock leap s.clock) reading (leap_followed reading leap) s
@@ -117,9 +118,9 @@ given g c =
 
 pub invariant_of-self-2 : goal.invariant_of-self-2
 invariant_of-self-2 g c = λ following.
-    in_step (Here g c) (New g c) (leap_of_clock c.in-Some.leap c.self.inside.clock.clock)
+    in_step (Here g c) (New g c) (leap_of_clock c.in-Some.leap c.self.inside.clock)
     c.in_ok-reading.reading (leap_followed c.in_ok-reading.reading c.in-Some.leap)
-    c.self.inside.clock (step g c) (given g c) refl refl
+    (seen c.self.inside.clock c.self.inside.course) (step g c) (given g c) refl refl
 
 pub returns-clause-answer : goal.returns-clause-answer
 returns-clause-answer g c =

@@ -3,6 +3,7 @@ use Rattle.std.proofs.lemmas.Result.{err_from_is_err_and}
 use Rattle.std.specs.Prelude.{MatchOption}
 use Rattle.tk_clock.specs.declared.command.Command.{Command}
 use Rattle.tk_clock.specs.Command.{is_resume}
+use Rattle.tk_ntp.specs.Course.{seen}
 use Rattle.tk_ntp.specs.Followed.{followed}
 use Rattle.tk_ntp.proofs.Followed.{followed_owed}
 use Rattle.tk_shared_steered.specs.Late.{IsSet, IsTaken}
@@ -22,7 +23,7 @@ pub invariant_of-self : goal.invariant_of-self
 invariant_of-self g c =
     let inside = c.self.inside in
     stopped_in_step c.in-Some.cmd c.in_err-reading.field-0.0
-    (owner_of inside.caller inside.clock inside.count) c.args.self.now c.give.new.caller
+    (owner_of inside.caller (seen inside.clock inside.course) inside.count) c.args.self.now c.give.new.caller
     c.self.view_is c.self.invariant c.requires.known c.in_err-reading.ensures.answer
 
 pub returns-in_err-reading-clause-answer : goal.returns-in_err-reading-clause-answer
@@ -33,7 +34,7 @@ returns-in_err-reading-clause-answer g c =
       it = c.in-Some.cmd;
       is = c.in-Some.is;
       stays = stopped c.in-Some.cmd c.in_err-reading.field-0.0
-          (owner_of inside.caller inside.clock inside.count) c.args.self.now c.give.new.caller
+          (owner_of inside.caller (seen inside.clock inside.course) inside.count) c.args.self.now c.give.new.caller
           c.self.view_is c.in_err-reading.ensures.answer;
     })
 
@@ -43,7 +44,7 @@ returns-in_err-reading-clause-known g c =
     rw p.1 tt
 
 abbrev Here : (g : Over) → goal.After-self-1 g → Owner
-Here g c = owner_of c.self.inside.caller c.self.inside.clock c.self.inside.count
+Here g c = owner_of c.self.inside.caller (seen c.self.inside.clock c.self.inside.course) c.self.inside.count
 
 step : (g : Over) (c : goal.After-self-1 g) → IsInStep (Here g c)
 step g c = c.self.invariant (subst IsFollowing (sym c.self.view_is) c.requires.known)
@@ -54,13 +55,13 @@ plain g c =
     c.in-Some.is c.requires.plain
 
 abbrev New : (g : Over) → goal.After-self-1 g → Owner
-New g c = owner_of c.give.new.caller c.follow_command-accepted.new.self c.front-self-inside.result
+New g c = owner_of c.give.new.caller (seen c.follow_command-accepted.new.clock c.follow_command-accepted.new.self) c.front-self-inside.result
 
 set : (g : Over) (c : goal.After-self-1 g) →
     IsTaken c.in-Some.cmd c.in_ok-reading.reading
-    (followed c.in_ok-reading.reading c.in-Some.cmd) c.self.inside.clock (Here g c) (New g c)
+    (followed c.in_ok-reading.reading c.in-Some.cmd) (seen c.self.inside.clock c.self.inside.course) (Here g c) (New g c)
 set g c =
-    let s = c.self.inside.clock in
+    let s = (seen c.self.inside.clock c.self.inside.course) in
     let cmd = c.in-Some.cmd in
     let reading = c.in_ok-reading.reading in
     taken (Here g c) (New g c) cmd reading (followed reading cmd) s
@@ -71,7 +72,7 @@ set g c =
 pub invariant_of-self-2 : goal.invariant_of-self-2
 invariant_of-self-2 g c = λ following.
     in_step (Here g c) (New g c) c.in-Some.cmd c.in_ok-reading.reading
-    (followed c.in_ok-reading.reading c.in-Some.cmd) c.self.inside.clock (step g c) (set g c) refl
+    (followed c.in_ok-reading.reading c.in-Some.cmd) (seen c.self.inside.clock c.self.inside.course) (step g c) (set g c) refl
     refl
 
 pub returns-clause-answer : goal.returns-clause-answer

@@ -2,6 +2,7 @@ use Rattle.std.proofs.Common.{◌≡◌, ap, refl, subst, ◌∙◌, inl, inr, O
 use Rattle.std.proofs.lemmas.Result.{err_from_is_err_and}
 use Rattle.std.specs.Prelude.{MatchResult, Result, ⊤}
 use Rattle.tk_clock.specs.declared.command.Command.{Command}
+use Rattle.tk_ntp.specs.Course.{seen}
 use Rattle.tk_ntp.specs.declared.change.Change.{Change}
 use Rattle.tk_ntp.specs.Change.{frequency_command, tick_command}
 use Rattle.tk_shared_steered.specs.declared.fault.SteeringFault.{SteeringFault}
@@ -43,9 +44,9 @@ returns-in_err-set g c =
     let p = err_from_is_err_and c.from_residual.result c.from_residual.ensures.1 in
     record {
       answer = rw (p.1, p.2) (stays_at_tick c.tick_command.result c.needed_change-change.result
-          c.in_err-set.field-0.0 (owner_of inside.caller inside.clock inside.count)
+          c.in_err-set.field-0.0 (owner_of inside.caller (seen inside.clock inside.course) inside.count)
           c.args.self.now c.set.new.self c.tick_command.ensures
-          c.needed_change-change.ensures.value c.self.view_is c.in_err-set.ensures.answer);
+          c.needed_change-change.ensures c.self.view_is c.in_err-set.ensures.answer);
     }
 
 pub set-requires-2-clause-known : goal.set-requires-2-clause-known
@@ -77,6 +78,6 @@ returns g c = record {
   answer =
       steered c.set-2.result c.needed_change-change.result c.tick_command.result
       c.frequency_command.result c.args.self.now c.set.new.self c.set-2.new.self
-      (c.needed_change-change.ensures.value ∙ ap change_for c.self.view_is) c.tick_command.ensures
+      (c.needed_change-change.ensures ∙ ap change_for c.self.view_is) c.tick_command.ensures
       c.frequency_command.ensures c.in_ok-set.ensures.answer c.set-2.ensures.answer;
 }

@@ -1,25 +1,22 @@
-//! Lets the discipline follow clocks that are given commands one by one, each at its own reading,
-//! as those of a shared keeper are.
+//! Follows clocks that are given commands one by one, each at its own reading, as those of a shared
+//! keeper are.
 ghost use Rattle.std.specs.Prelude.{◌≡◌, ◌<◌, ◌≤◌, false, MatchOption, IfOk};
 ghost use Rattle.tk_clock.specs.Command.{is_resume};
 ghost use Rattle.tk_clock.specs.Limits.{clock_end};
 ghost use Rattle.tk_clock.specs.Refusal.{state_refusal};
 ghost use Rattle.tk_ntp.specs.Account.{IsMarked};
 ghost use Rattle.tk_ntp.specs.Advance.{leap_of_clock, seconds_left};
+ghost use Rattle.tk_ntp.specs.Course.{seen};
 ghost use Rattle.tk_ntp.specs.Fault.{is_faulty};
 ghost use Rattle.tk_ntp.specs.Followed.{followed, leap_followed, HasFollowed, IsAskedAlone, IsNoEarlier, IsOneBegunAlone, IsOwedAt, seconds_left_after};
-ghost use Rattle.tk_ntp.specs.Steering.{commands};
-ghost use Rattle.tk_ntp.specs.SteeredClock.{rate_in_force};
 
-use super::SteeredClock;
-use crate::change::Change;
-use crate::course::{real, tai_of};
+use super::{Course, real, tai_of};
 use crate::leap::Leap;
 use crate::reply::Reply;
 use crate::timex::Timex;
-use tk_clock::{Command, Refusal};
+use tk_clock::{Clock, Command, Refusal};
 
-impl SteeredClock {
+impl Course {
     /// Lets just the next second of REALTIME begin in the discipline, if it begins at `reading` or
     /// before it, and returns the leap that is due then. The clocks get no command.
     ///
@@ -27,25 +24,28 @@ impl SteeredClock {
     /// command and the commands of `needed_change`, and call `follow_leap` and `follow_command`
     /// with their readings. `None` means that no second begins up to `reading`, and then nothing
     /// changes.
-    pub fn begin_alone(&mut self, reading: u64) -> Option<Leap>
-        ensures begun { IsOneBegunAlone reading self.old result self.new }
+    pub fn begin_alone(&mut self, clock: &Clock, reading: u64) -> Option<Leap>
+        ensures begun { IsOneBegunAlone reading (seen clock.now self.old) result
+            (seen clock.now self.new) }
         // the account adds up to what the clocks were asked for
-        ensures sum { IsMarked self.old → MatchOption result (Unit {0})
-            (λ _. IsOwedAt self.new.mark self.old self.new) }
+        ensures sum { let before = seen clock.now self.old in
+            IsMarked before → MatchOption result (Unit {0})
+            (λ _. IsOwedAt self.new.mark before (seen clock.now self.new)) }
         // the second can be the one of a leap
         ensures next { MatchOption result (Unit {0})
             (λ _. (0 < self.new.next) × (self.new.next ≤ clock_end)) }
         ensures fewer { MatchOption result (Unit {0})
-            (λ leap. seconds_left_after leap self.new < seconds_left self.old) }
+            (λ leap. seconds_left_after leap (seen clock.now self.new)
+            < seconds_left (seen clock.now self.old)) }
     {
-        let Some(at) = self.course.due(&self.clock, reading) else {
+        let Some(at) = self.due(clock, reading) else {
             return None;
         };
-        Some(self.course.begin_next(&self.clock, at))
+        Some(self.begin_next(clock, at))
     }
 
     /// Follows a command that the clocks were given at a reading: accounts for the cycles up to it,
-    /// and applies the command to these clocks. No second begins, and the discipline stays.
+    /// and applies the command to `clock`. No second begins, and the discipline stays.
     ///
     /// It is for `Update`, `Tai`, and the commands of `needed_change`. After a command that sets or
     /// wakes the clocks, the next second that begins would be a wrong one.
@@ -53,17 +53,24 @@ impl SteeredClock {
     /// # Errors
     ///
     /// The errors of `Clock::apply`. Nothing changes then.
-    pub fn follow_command(&mut self, reading: u64, cmd: Command) -> Result<(), Refusal>
-        ensures answer { HasFollowed (state_refusal self.old.clock reading cmd)
-            (followed reading cmd self.old) self.old result self.new }
+    pub fn follow_command(
+        &mut self,
+        clock: &mut Clock,
+        reading: u64,
+        cmd: Command,
+    ) -> Result<(), Refusal>
+        ensures answer { let before = seen clock.old self.old in
+            HasFollowed (state_refusal clock.old reading cmd) (followed reading cmd before) before
+            result (seen clock.new self.new) }
         // the account adds up to what the clocks were asked for
-        ensures sum { is_resume cmd ≡ false → IsNoEarlier reading self.old →
-            IfOk result (λ _. IsOwedAt reading self.old self.new) }
+        ensures sum { let before = seen clock.old self.old in
+            is_resume cmd ≡ false → IsNoEarlier reading before →
+            IfOk result (λ _. IsOwedAt reading before (seen clock.new self.new)) }
     {
-        let mut course = self.course;
-        course.account(&self.clock, reading);
-        self.clock.apply(reading, cmd)?;
-        self.course = course;
+        let mut course = *self;
+        course.account(clock, reading);
+        clock.apply(reading, cmd)?;
+        *self = course;
         Ok(())
     }
 
@@ -73,30 +80,27 @@ impl SteeredClock {
     /// # Errors
     ///
     /// The errors of `Clock::apply`. Nothing changes then.
-    pub fn follow_leap(&mut self, reading: u64, leap: Leap) -> Result<(), Refusal>
+    pub fn follow_leap(
+        &mut self,
+        clock: &mut Clock,
+        reading: u64,
+        leap: Leap,
+    ) -> Result<(), Refusal>
         requires some { 0 < self.old.next }
         requires early { self.old.next ≤ clock_end }
-        ensures answer { HasFollowed
-            (state_refusal self.old.clock reading (leap_of_clock leap self.old.clock))
-            (leap_followed reading leap self.old) self.old result self.new }
+        ensures answer { let before = seen clock.old self.old in
+            HasFollowed (state_refusal clock.old reading (leap_of_clock leap clock.old))
+            (leap_followed reading leap before) before result (seen clock.new self.new) }
         // the account adds up to what the clocks were asked for
-        ensures sum { IsNoEarlier reading self.old →
-            IfOk result (λ _. IsOwedAt reading self.old self.new) }
+        ensures sum { let before = seen clock.old self.old in
+            IsNoEarlier reading before →
+            IfOk result (λ _. IsOwedAt reading before (seen clock.new self.new)) }
     {
-        let next = leap.next_second(self.course.next);
-        let tai = tai_of(&self.clock);
-        self.follow_command(reading, leap.command(tai))?;
-        self.course.next = next;
+        let next = leap.next_second(self.next);
+        let tai = tai_of(clock);
+        self.follow_command(clock, reading, leap.command(tai))?;
+        self.next = next;
         Ok(())
-    }
-
-    /// Returns the change that gives the clocks the rate that the present second needs: a command
-    /// for the tick and one for the frequency, unless the rate in force gives the same multiplier.
-    pub fn needed_change(&self) -> Change
-        ensures value { let clock = self.now.clock in
-            result ≡ commands clock.base.counter (rate_in_force clock) self.now.steering }
-    {
-        self.course.needed_change(&self.clock)
     }
 
     /// Does what a request without a fault asks the discipline for, at the reading of the last
@@ -110,12 +114,13 @@ impl SteeredClock {
     ///
     /// - `Invalid`: the reading of the last account is above the mask. Nothing changes.
     /// - `Range`: REALTIME would be at its limit there. Nothing changes.
-    pub fn ask_alone(&mut self, request: &Timex) -> Result<Reply, Refusal>
+    pub fn ask_alone(&mut self, clock: &Clock, request: &Timex) -> Result<Reply, Refusal>
         requires sound { is_faulty request.now ≡ false }
-        ensures { IsAskedAlone request.now self.old result self.new }
+        ensures { IsAskedAlone request.now (seen clock.now self.old) result
+            (seen clock.now self.new) }
     {
-        let real = real(&self.clock, self.course.mark())?;
-        let tai = tai_of(&self.clock);
-        Ok(self.course.ask_discipline(request, real, tai))
+        let real = real(clock, self.mark())?;
+        let tai = tai_of(clock);
+        Ok(self.ask_discipline(request, real, tai))
     }
 }

@@ -1,22 +1,17 @@
 use Rattle.std.proofs.Common.{◌≡◌, ◌∙◌, ap, subst, ℕ}
-use Rattle.std.specs.Prelude.{Ok, None}
+use Rattle.std.specs.Prelude.{None}
 use Rattle.tk_ntp.specs.Asked.{real_at, real_refusal, with_asked}
 use Rattle.tk_ntp.specs.Course.{seen}
-use Rattle.tk_ntp.specs.Followed.{IsAskedAlone}
 use Rattle.tk_ntp.specs.Reply.{reply_to}
-use Rattle.tk_ntp.specs.SteeredClock.{SteeredClock}
-use Rattle.tk_ntp.proofs.steered_clock.SteeredClock.ask_alone.Goals as goal
+use Rattle.tk_ntp.proofs.course.Course.ask_alone.Goals as goal
 
 pub returns : goal.returns
 returns c =
     let request = c.args.request.now in
-    let clock = c.self.inside.clock in
-    let s = seen clock c.self.inside.course in
-    let end = seen clock c.ask_discipline.new.self in
+    let clock = c.args.clock.now in
+    let s = seen clock c.args.self.now in
     let real : c.in_ok-real.real ≡ real_at s.mark clock =
-    c.in_ok-real.ensures.1 ∙ ap (λ (at : ℕ). real_at at clock) c.mark.ensures in
-    subst (λ (t : SteeredClock). IsAskedAlone request t (Ok c.ask_discipline.result) end)
-    c.self.view_is (
+    c.in_ok-real.ensures.1 ∙ ap (λ (at : ℕ). real_at at clock) c.mark.ensures in (
       subst (λ (at : ℕ). real_refusal at clock ≡ None) c.mark.ensures c.in_ok-real.ensures.0,
       c.ask_discipline.ensures.reply
           ∙ ap (λ time. reply_to request time c.tai_of-tai.result s.steering.ntp) real
