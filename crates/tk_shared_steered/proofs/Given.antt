@@ -10,12 +10,14 @@ use Rattle.tk_clock.specs.Legal.{IsWhole}
 use Rattle.tk_clock.specs.Refusal.{clock_refusal}
 use Rattle.tk_clock.specs.Snapshot.{Snapshot}
 use Rattle.tk_clock.proofs.Append.{slice_get-push}
-use Rattle.tk_clock.proofs.Lists.{prefix_length, prefix_whole}
+use mathlib.Core.List.{IsPrefix}
+use Rattle.tk_clock.proofs.Lists.{prefix_length, prefix_self, prefix_whole}
 use Rattle.tk_clock.proofs.Stretches.{last_reading-followed_by}
 use Rattle.tk_latch.specs.Latch.{Learnt}
 use Rattle.tk_now.specs.Views.{Noticed}
 use Rattle.tk_page.specs.History.{Begins}
-use Rattle.tk_shared.specs.Callers.{HasRead, IsAccepted, IsInformed, IsRefused, IsSameCaller, Known, entry_of}
+use Rattle.tk_shared.specs.Callers.{HasRead, IsAccepted, IsInformed, IsKnownBy, IsRefused, IsSameCaller, Known, entry_of}
+use Rattle.tk_shared.proofs.Informed.{known_by_trans, knows_as_much}
 use Rattle.tk_shared_steered.specs.Given.{IsGiven, IsOvertaken}
 
 -- the last entry of a whole history was accepted
@@ -54,6 +56,20 @@ informed_same one other seen learnt noticed h =
     (subst (λ (l : Learnt). at one.seen l other.noticed) (sym learnt)
     (subst (λ (n : Noticed). at one.seen one.learnt n) (sym noticed) there))
 
+same_count : (one other : ℕ) → other ≡ one → one ≤ other
+same_count one other is = omega (arith, is)
+
+same_log : (one other : Noticed) → other ≡ one → IsPrefix one.log other.log
+same_log one other is = subst (λ (n : Noticed). IsPrefix one.log n.log) (sym is) (prefix_self one.log)
+
+-- a read of the page that shows nothing new leaves what a caller knows
+shown_known : (old middle new : Known) (snapshot : Snapshot) → IsKnownBy old middle →
+    HasRead middle new snapshot → new.seen ≡ middle.seen → IsKnownBy old new
+shown_known old middle new snapshot known r seen =
+    known_by_trans old middle new known
+    (knows_as_much middle new seen r.learnt (ap (λ (n : Noticed). n.commands) r.noticed)
+    (same_log middle.noticed new.noticed r.noticed) (same_count middle.folded new.folded r.folded))
+
 -- the command was the next entry, and it was the last one when the page was read
 pub given : (old middle new : Known) (cmd : Command) (number : ℕ) (snapshot : Snapshot) →
     IsAccepted old middle cmd number → IsSameCaller old middle → HasRead middle new snapshot →
@@ -79,6 +95,7 @@ given old middle new cmd number snapshot a same r next all =
       seen = is ∙ ap (λ (at : ℕ). followed_by old.seen (entry_of old at cmd)) (sym reading);
       counted = r.accepted ∙ a.counted;
       informed = informed_same middle new seen r.learnt r.noticed a.informed;
+      known = shown_known old middle new snapshot a.known r seen;
       id = r.id ∙ same.0;
     }
 

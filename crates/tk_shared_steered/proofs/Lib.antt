@@ -1,4 +1,5 @@
 pub mod Given
+pub mod KnownBy
 pub mod Steps
 pub mod Taken
 pub mod Opened

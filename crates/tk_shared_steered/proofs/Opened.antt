@@ -10,7 +10,7 @@ use Rattle.tk_clock.specs.Journal.{Journal, Opening, accepted_count, followed_by
 use Rattle.tk_clock.specs.Legal.{IsWhole}
 use Rattle.tk_clock.specs.Refusal.{state_refusal}
 use Rattle.tk_clock.specs.Snapshot.{Snapshot}
-use Rattle.tk_clock.specs.State.{ReadBase, base_of, state_of}
+use Rattle.tk_clock.specs.State.{ReadBase, State, base_of, state_of}
 use Rattle.tk_clock.specs.Time.{nanoseconds, timespec_of}
 use Rattle.tk_clock.proofs.Effects.{effect-last}
 use Rattle.tk_clock.proofs.Ledger.{clock_refusal-state}
@@ -24,7 +24,9 @@ use Rattle.tk_shared_steered.specs.declared.fault.SteeringFault.{SteeringFault}
 use Rattle.tk_shared_steered.specs.declared.fault.SteeringFault.TheVariants.{Refused, Foreign}
 use Rattle.tk_shared_steered.specs.Opened.{IsNotShown, IsOpenedAs, IsShown, IsUnopened, Late, Unsound, real_shown, shown_refusal}
 use Rattle.tk_shared_steered.specs.Owner.{IsInStep, owner_of}
+use Rattle.tk_shared.proofs.Informed.{known_by_trans}
 use Rattle.tk_shared_steered.proofs.Given.{accepted_last}
+use Rattle.tk_shared_steered.proofs.KnownBy.{read_known}
 use Rattle.tk_shared_steered.proofs.Steps.{accepts, follows}
 
 -- newly opened clocks, by REALTIME in nanoseconds
@@ -115,6 +117,7 @@ opened_as hz old middle new snapshot reading before after result r is given h =
           ∙ ap (followed reading Update) is.clock_is;
       counted = given.counted ∙ ap (λ (n : ℕ). n + 1) r.accepted;
       informed = given.informed;
+      known = known_by_trans old middle new (read_known old middle snapshot r) given.known;
       id = given.id ∙ r.id;
     }
 

@@ -4,16 +4,17 @@ use Rattle.tk_clock.specs.declared.command.Command.{Command}
 use Rattle.tk_clock.specs.declared.refusal.Refusal.{Refusal}
 use Rattle.tk_clock.specs.Journal.{followed_by}
 use Rattle.tk_clock.specs.Snapshot.{Snapshot}
-use Rattle.tk_shared.specs.Callers.{HasRead, Known, IsAccepted, IsInformed, IsRefused, entry_of}
+use Rattle.tk_shared.specs.Callers.{HasRead, Known, IsAccepted, IsInformed, IsKnownBy, IsRefused, entry_of}
 use Rattle.tk_shared_steered.specs.declared.fault.SteeringFault.{SteeringFault}
 use Rattle.tk_shared_steered.specs.declared.fault.SteeringFault.TheVariants.{Refused, Foreign}
 
 -- a caller's command was accepted at this reading: its entry is the only one after those that the
--- caller had seen. The caller was informed of everything
+-- caller had seen. The caller was informed of everything, and knows all that it knew
 pub record IsGiven (cmd : Command) (reading : ℕ) (old new : Known) : Type 0 where
   pub seen : new.seen ≡ followed_by old.seen (entry_of old reading cmd)
   pub counted : new.accepted ≡ old.accepted + 1
   pub informed : IsInformed new
+  pub known : IsKnownBy old new
   pub id : new.id ≡ old.id
 
 -- a caller gave this command and no other: it was refused; or it was accepted, and the caller read

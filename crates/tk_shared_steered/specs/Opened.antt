@@ -10,7 +10,7 @@ use Rattle.tk_clock.specs.State.{ReadBase}
 use Rattle.tk_clock.specs.Time.{nanoseconds, timespec_of}
 use Rattle.tk_ntp.specs.Followed.{followed}
 use Rattle.tk_ntp.specs.SteeredClock.{SteeredClock, steered_opened, steered_refusal}
-use Rattle.tk_shared.specs.Callers.{HasRead, Known, IsInformed, entry_of}
+use Rattle.tk_shared.specs.Callers.{HasRead, Known, IsInformed, IsKnownBy, entry_of}
 use Rattle.tk_shared_steered.specs.declared.fault.SteeringFault.{SteeringFault}
 use Rattle.tk_shared_steered.specs.declared.fault.SteeringFault.TheVariants.{Refused, Foreign}
 use Rattle.tk_shared_steered.specs.Given.{IsNotGiven}
@@ -31,6 +31,7 @@ pub record IsOpenedAs (hz : ℕ) (old new : Known) (clock : SteeredClock) : Type
   pub clock_is : clock ≡ followed reading Update (steered_opened counter start real hz)
   pub counted : new.accepted ≡ old.accepted + 1
   pub informed : IsInformed new
+  pub known : IsKnownBy old new
   pub id : new.id ≡ old.id
 
 -- the owner of these clocks

@@ -4,6 +4,7 @@ ghost use Rattle.tk_clock.specs.Command.{is_resume};
 ghost use Rattle.tk_clock.specs.Limits.{clock_end};
 ghost use Rattle.tk_ntp.specs.Advance.{seconds_left};
 ghost use Rattle.tk_ntp.specs.Followed.{seconds_left_after};
+ghost use Rattle.tk_shared.specs.Callers.{IsKnownBy};
 ghost use Rattle.tk_shared_steered.specs.Late.{HasAdvancedLate, HasBegunLate, HasStopped, HasStoppedLate, IsLeapMadeIf, IsSet, IsSteered, IsUpdated, Stays, StaysAfterTick, StaysAt, StaysAtLeap};
 ghost use Rattle.tk_shared_steered.specs.Owner.{IsFollowing};
 
@@ -30,6 +31,8 @@ impl<L: Named> SharedSteering<L> {
         ensures answer { MatchResult result
             (λ _. HasAdvancedLate self.old self.new)
             (λ fault. HasStoppedLate fault self.old self.new) }
+        // the caller knows all that it knew
+        ensures known { IsKnownBy self.old.caller self.new.caller }
     {
         'seconds: while self.begin_late(rt, keeper)? {}
         Ok(())
@@ -58,6 +61,8 @@ impl<L: Named> SharedSteering<L> {
         ensures answer { MatchResult result
             (λ begun. HasBegunLate begun self.old self.new)
             (λ fault. HasStopped fault self.old self.new) }
+        // the caller knows all that it knew
+        ensures known { IsKnownBy self.old.caller self.new.caller }
         ensures fewer { IfOk result (λ begun. IsTrue begun →
             seconds_left self.new.clock < seconds_left self.old.clock) }
     {

@@ -1,6 +1,7 @@
 //! Opens a discipline over the clocks of a shared keeper.
 ghost use Rattle.std.specs.Prelude.{◌≡◌, pos, MatchResult};
 ghost use Rattle.tk_clock.specs.Time.{nanoseconds, timespec_of};
+ghost use Rattle.tk_shared.specs.Callers.{IsKnownBy};
 ghost use Rattle.tk_shared_steered.specs.Opened.{HasOpened, IsNotShown, IsShown, IsUnopened};
 
 use super::SharedSteering;
@@ -34,6 +35,10 @@ impl<L: Named> SharedSteering<L> {
         ensures answer { MatchResult result
             (λ owner. HasOpened hz caller owner)
             (λ unsteered. IsUnopened hz caller unsteered.caller unsteered.fault) }
+        // the caller knows all that it knew
+        ensures known { MatchResult result
+            (λ owner. IsKnownBy caller owner.caller)
+            (λ unsteered. IsKnownBy caller unsteered.caller) }
     {
         let mut caller = caller;
         let now = keeper.read(rt, &mut caller);

@@ -1,11 +1,14 @@
 use Rattle.std.proofs.Common.{◌≡◌, refl, sym, subst, ◌∙◌, false, inl, inr, Option}
 use Rattle.std.proofs.lemmas.Result.{err_from_is_err_and}
+use Rattle.std.specs.Prelude.{Ok, Err}
 use Rattle.tk_clock.specs.declared.command.Command.TheVariants.{Update}
 use Rattle.tk_ntp.specs.declared.leap.Leap.{Leap}
 use Rattle.tk_ntp.specs.Advance.{leap_of_clock, seconds_left}
 use Rattle.tk_shared_steered.specs.declared.fault.SteeringFault.{SteeringFault}
+use Rattle.tk_shared_steered.specs.declared.fault.SteeringFault.TheVariants.{Foreign}
 use Rattle.tk_shared_steered.specs.Late.{AfterLeap, AfterTick, AfterUpdate, AtFirst, HasStopped, IsLeapMadeIf, IsUpdated, Lost, StaysAfterTick, StaysAtLeap, Stops}
 use Rattle.tk_shared_steered.specs.Owner.{Owner, is_lost}
+use Rattle.tk_shared_steered.proofs.KnownBy.{late_known}
 use Rattle.tk_shared_steered.proofs.Taken.{fewer}
 use Rattle.tk_shared_steered.proofs.shared_steering.SharedSteering.begin_late.Goals as goal
 
@@ -100,3 +103,29 @@ returns-clause-fewer g c = λ begun.
     fewer c.in_ok-leap.leap (seconds_left c.args.self.now.clock) c.update.new.self
     c.make_leap.new.self c.steer.new.self (sym c.is_some.ensures ∙ begun)
     c.in_ok-leap.ensures.fewer c.in_ok-make_leap.ensures.answer c.in_ok-steer.ensures.answer
+
+-- in each case the caller knows all that it knew
+
+pub returns-then-is_lost-clause-known : goal.returns-then-is_lost-clause-known
+returns-then-is_lost-clause-known g c =
+    late_known (Err Foreign) c.args.self.now c.args.self.now
+    (returns-then-is_lost-clause-answer g c)
+
+pub returns-in_err-leap-clause-known : goal.returns-in_err-leap-clause-known
+returns-in_err-leap-clause-known g c =
+    late_known c.from_residual.result c.args.self.now c.update.new.self
+    (returns-in_err-leap-clause-answer g c)
+
+pub returns-in_err-make_leap-clause-known : goal.returns-in_err-make_leap-clause-known
+returns-in_err-make_leap-clause-known g c =
+    late_known c.from_residual-in_err-make_leap.result c.args.self.now c.make_leap.new.self
+    (returns-in_err-make_leap-clause-answer g c)
+
+pub returns-in_err-steer-clause-known : goal.returns-in_err-steer-clause-known
+returns-in_err-steer-clause-known g c =
+    late_known c.from_residual-in_err-steer.result c.args.self.now c.steer.new.self
+    (returns-in_err-steer-clause-answer g c)
+
+pub returns-clause-known : goal.returns-clause-known
+returns-clause-known g c =
+    late_known (Ok c.is_some.result) c.args.self.now c.steer.new.self (returns-clause-answer g c)

@@ -1,17 +1,20 @@
 use Rattle.std.proofs.Common.{sym}
 use Rattle.tk_ntp.specs.Course.{seen}
 use Rattle.tk_shared_steered.specs.Opened.{IsOpenedAs, NotGiven}
+use Rattle.tk_shared_steered.proofs.KnownBy.{read_known, unopened_known}
 use Rattle.tk_shared_steered.proofs.Opened.{followed_from, open_in_step, opened_as, unshown}
 use Rattle.tk_shared_steered.proofs.shared_steering.SharedSteering.open.Given.{Over}
 use Rattle.tk_shared_steered.proofs.shared_steering.SharedSteering.open.Goals as goal
 
-pub returns-in-Err : goal.returns-in-Err
-returns-in-Err g c = record {
-  answer = unshown c.args.hz c.args.caller c.read-now.new.caller c.read-now.result c.in-Err.fault
-      c.read-now.ensures.read c.in-Err.ensures.answer;
-}
+pub returns-in-Err-clause-known : goal.returns-in-Err-clause-known
+returns-in-Err-clause-known g c =
+    read_known c.args.caller c.read-now.new.caller c.read-now.result c.read-now.ensures.read
 
-clocks : (g : Over) (c : goal.After-result g) →
+pub returns-in-Err-clause-answer : goal.returns-in-Err-clause-answer
+returns-in-Err-clause-answer g c = unshown c.args.hz c.args.caller c.read-now.new.caller c.read-now.result c.in-Err.fault
+    c.read-now.ensures.read c.in-Err.ensures.answer
+
+clocks : (g : Over) (c : goal.After-front-count g) →
     IsOpenedAs c.args.hz c.args.caller c.give.new.caller
     (seen c.follow_command-accepted.new.clock c.follow_command-accepted.new.self)
 clocks g c =
@@ -31,16 +34,22 @@ invariant_of-result g c = λ following.
     (seen c.follow_command-accepted.new.clock c.follow_command-accepted.new.self)
     c.front-count.result (clocks g c)
 
-pub returns-in-Ok-give : goal.returns-in-Ok-give
-returns-in-Ok-give g c = record {
-  answer = record { clocks = clocks g c; following = sym c.front-count.ensures };
-}
+pub returns-in-Ok-give-clause-answer : goal.returns-in-Ok-give-clause-answer
+returns-in-Ok-give-clause-answer g c =
+    record { clocks = clocks g c; following = sym c.front-count.ensures }
 
-pub returns-in-Err-give : goal.returns-in-Err-give
-returns-in-Err-give g c = record {
-  answer = NotGiven c.in-Err-give.fault c.read-now.new.caller (record {
-    snapshot = c.read-now.result;
-    read = c.read-now.ensures.read;
-    none = c.in-Ok.ensures.answer.none;
-  }) c.in-Ok.ensures.answer.sound c.in-Err-give.ensures.answer;
-}
+pub returns-in-Ok-give-clause-known : goal.returns-in-Ok-give-clause-known
+returns-in-Ok-give-clause-known g c = (clocks g c).known
+
+pub returns-in-Err-give-clause-answer : goal.returns-in-Err-give-clause-answer
+returns-in-Err-give-clause-answer g c =
+    NotGiven c.in-Err-give.fault c.read-now.new.caller (record {
+      snapshot = c.read-now.result;
+      read = c.read-now.ensures.read;
+      none = c.in-Ok.ensures.answer.none;
+    }) c.in-Ok.ensures.answer.sound c.in-Err-give.ensures.answer
+
+pub returns-in-Err-give-clause-known : goal.returns-in-Err-give-clause-known
+returns-in-Err-give-clause-known g c =
+    unopened_known c.args.hz c.args.caller c.give.new.caller c.in-Err-give.fault
+    (returns-in-Err-give-clause-answer g c)
