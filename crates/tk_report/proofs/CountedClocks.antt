@@ -20,24 +20,24 @@ use Rattle.tk_clock.proofs.Start.{state_of-begun}
 use Rattle.tk_clock.proofs.Stretches.{last_reading-followed_by}
 use Rattle.tk_keeper.specs.ChangeCounter.{counter_refusal}
 use Rattle.tk_keeper.proofs.ChangeCounter.{counter_refusal-full, counter_refusal-room}
-use Rattle.tk_script.specs.declared.opening.Start.{Start}
 use Rattle.tk_script.specs.Start.{journal_at}
+use Rattle.tk_report.specs.declared.plain_start.PlainStart.{PlainStart}
+use Rattle.tk_report.specs.Beginnings.{start_of}
 use Rattle.tk_report.specs.CountedClocks.{Counted, IsKept, IsReplied, most_of}
 use Rattle.tk_report.specs.Folding.{rule_of}
 use Rattle.tk_report.specs.Report.{change_if, change_reply, reply_by}
 use Rattle.tk_report.proofs.Beginnings.{count-at}
 
 -- clocks with the count and the state of the journal with which a script begins
-pub IsKept-begun : (keep : Option ℕ) (start : Start) (journal : Journal) (clock : State)
-    (count most : ℕ) →
-    journal ≡ journal_at start → clock ≡ state_of journal → count ≡ accepted_count journal →
-    most ≡ most_of keep →
+pub IsKept-begun : (keep : Option ℕ) (plain : PlainStart) (clock : State) (count most : ℕ) →
+    clock ≡ state_of (journal_at (start_of plain)) →
+    count ≡ accepted_count (journal_at (start_of plain)) → most ≡ most_of keep →
     IsKept keep (record { clock = clock; count = count; since = count; most = most })
-    (journal_at start)
-IsKept-begun keep start journal clock count most same state number limit = record {
-  clock = state ∙ ap state_of same;
-  count = number ∙ ap accepted_count same;
-  since = number ∙ ap accepted_count same ∙ count-at start;
+    (journal_at (start_of plain))
+IsKept-begun keep plain clock count most state number limit = record {
+  clock = state;
+  count = number;
+  since = number ∙ count-at plain;
   most = limit;
 }
 

@@ -1,6 +1,6 @@
 -- The report and the journal of a script, by the way in which its clocks begin.
 use Rattle.std.proofs.Common.{◌≡◌, ◌∙◌, ℕ, List, sym, ap, subst}
-use Rattle.std.specs.Prelude.{⊤, Option, Result, Ok, Err, MatchResult}
+use Rattle.std.specs.Prelude.{Option, Result, Ok, Err, MatchResult}
 use Rattle.tk_clock.specs.Journal.{Journal}
 use Rattle.tk_script.specs.declared.opening.Start.{Start}
 use Rattle.tk_script.specs.declared.opening.Start.TheVariants.{Opened, Steered, Running, Continued}
@@ -9,27 +9,16 @@ use Rattle.tk_script.specs.declared.script_error.ScriptError.{ScriptError}
 use Rattle.tk_script.specs.Coming.{opened_with}
 use Rattle.tk_script.specs.Grammar.{Fails, Gives, Parse, parse_of}
 use Rattle.tk_script.specs.Start.{journal_at}
+use Rattle.tk_report.specs.declared.plain_start.PlainStart.{PlainStart}
+use Rattle.tk_report.specs.declared.plain_start.PlainStart.TheVariants as starts
+use Rattle.tk_report.specs.Beginnings.{IsSteeredAs, start_of}
 use Rattle.tk_report.specs.Folding.{rule_of}
 use Rattle.tk_report.specs.Report.{Rule, IsPlainReportOfRows, differences_of}
 use Rattle.tk_report.specs.Reports.{IsPlainReportWith, IsReportFrom, IsReportOfRows}
-use Rattle.tk_report.specs.SteeredReport.{IsSteeredJournal, IsSteeredJournalOfRows, IsSteeredReport, IsSteeredReportOfRows, continued_from, steered_from}
+use Rattle.tk_report.specs.SteeredReport.{IsSteeredJournal, IsSteeredJournalOfRows, IsSteeredReport, IsSteeredReportOfRows}
 use Rattle.tk_report.specs.Trace.{IsJournalFrom, IsJournalOf, after_all, journal_after}
 use Rattle.tk_report.proofs.Lines.{Rows, Fails-from, fails-opened}
 use Rattle.tk_steered.specs.Kept.{SteeredKeeper}
-
--- no discipline steers the clocks
-abbrev pub IsUnsteered : Start → Type 0
-IsUnsteered (Opened opening) = ⊤
-IsUnsteered (Running clock front) = ⊤
-IsUnsteered (Steered opening hz) = ⊥
-IsUnsteered (Continued clock front) = ⊥
-
--- a discipline steers the clocks, and they begin as these ones
-abbrev pub IsSteeredAs : Start → SteeredKeeper → Type 0
-IsSteeredAs (Opened opening) first = ⊥
-IsSteeredAs (Running clock front) first = ⊥
-IsSteeredAs (Steered opening hz) first = first ≡ steered_from opening hz
-IsSteeredAs (Continued clock front) first = first ≡ continued_from clock front
 
 start-opened : (start : Start) (all : Rows) (parse : Parse) → opened_with start all ≡ Ok parse →
     start ≡ parse.start
@@ -39,36 +28,34 @@ start-opened start (Ok rows) parse known =
     ap (λ (p : Parse). p.start) same
 start-opened start (Err fault) parse known = absurd (cc known)
 
-report-unsteered : (rule : Rule) (start : Start) (parse : Parse) (text : List ℕ) (found : ℕ) →
-    IsUnsteered start → IsPlainReportWith rule parse text found →
-    IsReportFrom start rule parse text found
-report-unsteered rule (Opened opening) parse text found free report = report
-report-unsteered rule (Running clock front) parse text found free report = report
-report-unsteered rule (Steered opening hz) parse text found free report = absurd free
-report-unsteered rule (Continued clock front) parse text found free report = absurd free
+report-unsteered : (rule : Rule) (plain : PlainStart) (parse : Parse) (text : List ℕ) (found : ℕ) →
+    IsPlainReportWith rule parse text found → IsReportFrom (start_of plain) rule parse text found
+report-unsteered rule (starts.Opened opening) parse text found report = report
+report-unsteered rule (starts.Running clock front) parse text found report = report
 
 -- the report by clocks that nothing steers is the report of the rows
-pub report-plain : {A : Type 0} (keep : Option ℕ) (start : Start) (all : Rows)
+pub report-plain : {A : Type 0} (keep : Option ℕ) (start : Start) (plain : PlainStart) (all : Rows)
     (text_of : A → List ℕ) (count_of : A → ℕ) (result : Result A ScriptError) →
-    IsUnsteered start →
+    start ≡ start_of plain →
     MatchResult result
-    (λ report. IsPlainReportOfRows (rule_of keep) start all (text_of report)
-    × (count_of report ≡ differences_of (rule_of keep) (opened_with start all)))
+    (λ report. IsPlainReportOfRows (rule_of keep) (start_of plain) all (text_of report)
+    × (count_of report ≡ differences_of (rule_of keep) (opened_with (start_of plain) all)))
     (λ fault. Fails fault all) →
     MatchResult result
     (λ report. IsReportOfRows (rule_of keep) start all (text_of report) (count_of report))
     (λ fault. Fails fault all)
-report-plain keep start all text_of count_of (Ok made) free ((parse, known, report), count) =
+report-plain keep start plain all text_of count_of (Ok made) begins ((parse, known, report), count) =
     let rule = rule_of keep in
-    let plain : IsPlainReportWith rule parse (text_of made) (count_of made) =
-    (report, count ∙ ap (differences_of rule) known) in (
-      parse,
-      known,
-      subst (λ (s : Start). IsReportFrom s rule parse (text_of made) (count_of made))
-          (start-opened start all parse known)
-          (report-unsteered rule start parse (text_of made) (count_of made) free plain),
-    )
-report-plain keep start all text_of count_of (Err fault) free fails = fails
+    let text = text_of made in
+    let found = count_of made in
+    let stated : IsPlainReportWith rule parse text found =
+    (report, count ∙ ap (differences_of rule) known) in
+    let from : IsReportFrom parse.start rule parse text found =
+    subst (λ (s : Start). IsReportFrom s rule parse text found)
+    (start-opened (start_of plain) all parse known)
+    (report-unsteered rule plain parse text found stated) in
+    (parse, ap (λ (s : Start). opened_with s all) begins ∙ known, from)
+report-plain keep start plain all text_of count_of (Err fault) begins fails = fails
 
 report-begun : (rule : Rule) (start : Start) (first : SteeredKeeper) (parse : Parse)
     (text : List ℕ) (found : ℕ) →
@@ -99,19 +86,19 @@ report-steered keep start first all text_of count_of (Ok made) begins (rows, kno
     )
 report-steered keep start first all text_of count_of (Err fault) begins fails = fails
 
-journal-unsteered : (start : Start) (rows : List Row) (journal : Journal) → IsUnsteered start →
-    journal ≡ after_all (journal_at start) rows → IsJournalFrom start rows journal
-journal-unsteered (Opened opening) rows journal free known = known
-journal-unsteered (Running clock front) rows journal free known = known
-journal-unsteered (Steered opening hz) rows journal free known = absurd free
-journal-unsteered (Continued clock front) rows journal free known = absurd free
+journal-unsteered : (plain : PlainStart) (rows : List Row) (journal : Journal) →
+    journal ≡ after_all (journal_at (start_of plain)) rows →
+    IsJournalFrom (start_of plain) rows journal
+journal-unsteered (starts.Opened opening) rows journal known = known
+journal-unsteered (starts.Running clock front) rows journal known = known
 
-journal-plain_rows : (start : Start) (all : Rows) (journal : Journal) → IsUnsteered start →
-    journal_after (journal_at start) all ≡ Ok journal → IsJournalOf (opened_with start all) journal
-journal-plain_rows start (Ok rows) journal free known =
-    let same : after_all (journal_at start) rows ≡ journal = cc known in
-    journal-unsteered start rows journal free (sym same)
-journal-plain_rows start (Err fault) journal free known = absurd (cc known)
+journal-plain_rows : (plain : PlainStart) (all : Rows) (journal : Journal) →
+    journal_after (journal_at (start_of plain)) all ≡ Ok journal →
+    IsJournalOf (opened_with (start_of plain) all) journal
+journal-plain_rows plain (Ok rows) journal known =
+    let same : after_all (journal_at (start_of plain)) rows ≡ journal = cc known in
+    journal-unsteered plain rows journal (sym same)
+journal-plain_rows plain (Err fault) journal known = absurd (cc known)
 
 -- a fault of the journal is the fault of the rows
 err-of_rows : (journal : Journal) (all : Rows) (fault : ScriptError) →
@@ -127,15 +114,16 @@ fails-of_rows journal all fault =
     Fails-from (journal_after journal all) all fault (err-of_rows journal all)
 
 -- the journal of clocks that nothing steers is the journal of the rows
-pub journal-plain : {A : Type 0} (start : Start) (all : Rows) (journal_in : A → Journal)
-    (result : Result A ScriptError) → IsUnsteered start →
-    Gives journal_in result (journal_after (journal_at start) all) →
+pub journal-plain : {A : Type 0} (start : Start) (plain : PlainStart) (all : Rows)
+    (journal_in : A → Journal) (result : Result A ScriptError) → start ≡ start_of plain →
+    Gives journal_in result (journal_after (journal_at (start_of plain)) all) →
     MatchResult result (λ keeper. IsJournalOf (opened_with start all) (journal_in keeper))
     (λ fault. Fails fault all)
-journal-plain start all journal_in (Ok keeper) free known =
-    journal-plain_rows start all (journal_in keeper) free known
-journal-plain start all journal_in (Err fault) free fails =
-    fails-of_rows (journal_at start) all fault fails
+journal-plain start plain all journal_in (Ok keeper) begins known =
+    subst (λ (s : Start). IsJournalOf (opened_with s all) (journal_in keeper)) (sym begins)
+    (journal-plain_rows plain all (journal_in keeper) known)
+journal-plain start plain all journal_in (Err fault) begins fails =
+    fails-of_rows (journal_at (start_of plain)) all fault fails
 
 journal-begun : (start : Start) (first : SteeredKeeper) (rows : List Row) (journal : Journal) →
     IsSteeredAs start first → IsSteeredJournal first rows journal →

@@ -3,6 +3,7 @@ pub mod Reading
 pub mod Writing
 pub mod Report
 pub mod SteeredReport
+pub mod Beginnings
 pub mod Reports
 pub mod Folding
 pub mod CountedClocks

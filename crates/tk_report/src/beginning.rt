@@ -1,34 +1,38 @@
 //! Makes the clocks with which a script begins.
 ghost use Rattle.std.specs.Prelude.{◌≡◌, ◌≤◌, None};
 ghost use Rattle.tk_ntp.specs.SteeredClock.{steered_refusal};
+ghost use Rattle.tk_report.specs.Beginnings.{IsBeginning};
 ghost use Rattle.tk_report.specs.SteeredReport.{continued_from, steered_from};
-ghost use Rattle.tk_script.specs.Start.{IsOpenable, journal_at, most_front};
+ghost use Rattle.tk_script.specs.Start.{IsOpenable, most_front};
 
+use crate::plain_start::PlainStart;
 use std::alloc::Allocator;
-use tk_keeper::Timekeeper;
 use tk_ntp::SteeredClock;
 use tk_script::{Opening, Start};
 use tk_steered::Steered;
 
-/// Opens the clocks of a script without a discipline, or continues running ones. The journal has no
-/// entries.
-pub(crate) fn keeper_at<A: Allocator + Copy>(alloc: A, start: Start) -> Timekeeper<A>
+/// Contains the beginning of a script, by whether a discipline steers its clocks.
+pub(crate) enum Beginning<A: Allocator> {
+    Plain(PlainStart),
+    Steered(Steered<A>),
+}
+
+/// Opens the clocks of a script, or continues running ones, if a discipline steers them. The plain
+/// clocks of a journal and of a report differ, so `PlainStart` makes them.
+pub(crate) fn begin<A: Allocator + Copy>(alloc: A, start: Start) -> Beginning<A>
     requires { IsOpenable start }
-    ensures { result.journal ≡ journal_at start }
+    ensures { IsBeginning start result }
 {
     match start {
-        Start::Opened(opening) | Start::Steered { opening, .. } => {
-            Timekeeper::open(alloc, opening.desc, opening.reading, opening.real).unwrap()
-        }
-        Start::Running { clock, front } => Timekeeper::open_from(alloc, clock, front).unwrap(),
-        Start::Continued { clock, front } => {
-            Timekeeper::open_from(alloc, clock.clock(), front).unwrap()
-        }
+        Start::Opened(opening) => Beginning::Plain(PlainStart::Opened(opening)),
+        Start::Running { clock, front } => Beginning::Plain(PlainStart::Running { clock, front }),
+        Start::Steered { opening, hz } => Beginning::Steered(steered_at(alloc, opening, hz)),
+        Start::Continued { clock, front } => Beginning::Steered(continued_at(alloc, clock, front)),
     }
 }
 
 /// Opens the clocks of a script that a discipline steers.
-pub(crate) fn steered_at<A: Allocator + Copy>(alloc: A, opening: Opening, hz: u32) -> Steered<A>
+fn steered_at<A: Allocator + Copy>(alloc: A, opening: Opening, hz: u32) -> Steered<A>
     requires { steered_refusal opening.desc opening.reading opening.real hz ≡ None }
     ensures { result ≡ steered_from opening hz }
 {
@@ -36,11 +40,7 @@ pub(crate) fn steered_at<A: Allocator + Copy>(alloc: A, opening: Opening, hz: u3
 }
 
 /// Continues running clocks that a discipline steers.
-pub(crate) fn continued_at<A: Allocator + Copy>(
-    alloc: A,
-    clock: SteeredClock,
-    front: u64,
-) -> Steered<A>
+fn continued_at<A: Allocator + Copy>(alloc: A, clock: SteeredClock, front: u64) -> Steered<A>
     requires { front ≤ most_front }
     ensures { result ≡ continued_from clock front }
 {

@@ -4,18 +4,17 @@ ghost use Rattle.tk_clock.specs.declared.clock_id.ClockId.TheVariants.{Monotonic
 ghost use Rattle.tk_clock.specs.Limits.{clock_end, counted_most};
 ghost use Rattle.tk_clock.specs.State.{base_value};
 ghost use Rattle.tk_keeper.specs.Read.{IsTimeOf};
+ghost use Rattle.tk_report.specs.Beginnings.{start_of};
 ghost use Rattle.tk_report.specs.CountedClocks.{ForKept, IsKept, IsReplied, most_of};
 ghost use Rattle.tk_report.specs.Folding.{rule_of};
 ghost use Rattle.tk_report.specs.Report.{change_reply, event, reply_by};
 ghost use Rattle.tk_script.specs.Start.{IsOpenable, journal_at};
 
-use crate::beginning::keeper_at;
-use std::alloc::Allocator;
+use crate::plain_start::PlainStart;
 use std::marker::Model;
 use tk_clock::{COUNTED_LIMIT, Clock, Command, Refusal, Snapshot, Timespec};
 use tk_counter::CounterDesc;
 use tk_keeper::{LISTED_LIMIT, time_of};
-use tk_script::Start;
 
 /// Keeps the clocks of a script, and counts the commands that they accept. It lists none, because
 /// no line of a report shows what a journal lists. So a command takes less time than one that is
@@ -34,6 +33,7 @@ pub(crate) struct CountedClocks {
 
 impl Model for CountedClocks {
     ghost use Rattle.std.specs.Prelude.{◌≤◌};
+    ghost use Rattle.tk_report.specs.Beginnings.{start_of};
     ghost use Rattle.tk_report.specs.CountedClocks.{Counted};
 
     ghost Value = { Counted };
@@ -51,14 +51,13 @@ impl Model for CountedClocks {
 impl CountedClocks {
     /// Begins the clocks of a script. Without `keep`, they accept 1,048,576 commands over one
     /// counter, as many as a journal lists.
-    pub fn begin<A: Allocator + Copy>(alloc: A, start: Start, keep: Option<u64>) -> CountedClocks
-        requires { IsOpenable start }
-        ensures { IsKept keep result (journal_at start) }
+    pub fn begin(start: PlainStart, keep: Option<u64>) -> CountedClocks
+        requires { IsOpenable (start_of start) }
+        ensures { IsKept keep result (journal_at (start_of start)) }
     {
-        let keeper = keeper_at(alloc, start);
-        let count = keeper.len() as u64;
+        let (clock, count) = start.clocks();
         CountedClocks {
-            clock: *keeper.clock(),
+            clock,
             count,
             since: count,
             most: most_by(keep),

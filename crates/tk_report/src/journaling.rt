@@ -6,10 +6,12 @@ ghost use Rattle.tk_clock.specs.Refusal.{first_refusal};
 ghost use Rattle.tk_script.specs.Coming.{IsReady, coming, opened_with};
 ghost use Rattle.tk_script.specs.Grammar.{Fails, Gives, parse_of};
 ghost use Rattle.tk_script.specs.Start.{IsOpenable, journal_at};
+ghost use Rattle.tk_report.specs.Beginnings.{start_of};
 ghost use Rattle.tk_report.specs.Report.{after};
 ghost use Rattle.tk_report.specs.Trace.{IsJournalOf, journal_after};
 
-use crate::beginning::{continued_at, keeper_at, steered_at};
+use crate::beginning::{Beginning, begin};
+use crate::plain_start::PlainStart;
 use crate::steered_journaling::steered_after;
 use std::alloc::{Allocator, Global};
 use tk_clock::Refusal;
@@ -59,25 +61,24 @@ pub fn keeper_after<A: Allocator + Copy>(
         (λ keeper. IsJournalOf (opened_with start (coming rows.old)) keeper.journal)
         (λ error. Fails error (coming rows.old)) }
 {
-    match start {
-        Start::Steered { opening, hz } => steered_after(steered_at(alloc, opening, hz), rows),
-        Start::Continued { clock, front } => steered_after(continued_at(alloc, clock, front), rows),
-        Start::Opened(_) | Start::Running { .. } => plain_after(alloc, start, rows),
+    match begin(alloc, start) {
+        Beginning::Plain(start) => plain_after(alloc, start, rows),
+        Beginning::Steered(clocks) => steered_after(clocks, rows),
     }
 }
 
 /// Returns the clocks of `keeper_after` if no discipline steers them.
 fn plain_after<A: Allocator + Copy>(
     alloc: A,
-    start: Start,
+    start: PlainStart,
     rows: &mut RowReader<'_>,
 ) -> Result<Timekeeper<A>, ScriptError>
-    requires opens { IsOpenable start }
+    requires opens { IsOpenable (start_of start) }
     requires ready { IsReady rows.old }
     ensures { Gives (λ keeper. keeper.journal) result
-        (journal_after (journal_at start) (coming rows.old)) }
+        (journal_after (journal_at (start_of start)) (coming rows.old)) }
 {
-    let mut keeper = keeper_at(alloc, start);
+    let mut keeper = start.keeper(alloc);
     'rows: while let Some(row) = rows.next_row()? {
         obey(&mut keeper, row)?;
     }

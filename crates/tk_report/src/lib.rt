@@ -33,6 +33,7 @@ mod fault;
 mod journaling;
 mod many;
 mod many_error;
+mod plain_start;
 mod replaying;
 mod reporting;
 mod row_reporting;

@@ -10,6 +10,7 @@ ghost use Rattle.tk_script.specs.Coming.{IsReady, coming, opened_with};
 ghost use Rattle.tk_script.specs.Lines.{IsWritable};
 ghost use Rattle.tk_script.specs.Grammar.{Fails, parse_of};
 ghost use Rattle.tk_script.specs.Start.{IsOpenable};
+ghost use Rattle.tk_report.specs.Beginnings.{start_of};
 ghost use Rattle.tk_report.specs.CountedClocks.{ForKept, IsKept, IsReplied};
 ghost use Rattle.tk_report.specs.Folding.{rule_of};
 ghost use Rattle.tk_report.specs.Report.{IsLine, IsLookLine, IsPlainReportOfRows, after, difference, differences_of, differs_text, event, missed, missed_at, missed_if, reply_by, reply_line};
@@ -17,13 +18,12 @@ ghost use Rattle.tk_report.specs.Reports.{IsReport, IsReportBy, IsReportUnlimite
 
 use crate::checked_report::CheckedReport;
 use crate::counted_clocks::CountedClocks;
+use crate::plain_start::PlainStart;
 use crate::row_reporting::report_rows;
 use std::alloc::{Allocator, Global};
 use tk_clock::{ClockId, Command, Refusal, Snapshot, Timespec};
 use tk_counter::NANOS_PER_SECOND;
-use tk_script::{
-    Calendar, Row, RowReader, ScriptError, Start, line_differs, line_no, line_ok, line_open,
-};
+use tk_script::{Calendar, Row, RowReader, ScriptError, line_differs, line_no, line_ok, line_open};
 
 /// Makes the report of a script's bytes: a line for the opening, and one for each later record.
 ///
@@ -81,18 +81,18 @@ pub(crate) fn report_by(
 /// Makes the report of `report_rows` for clocks that no discipline steers.
 pub(crate) fn report_plain<A: Allocator + Copy>(
     alloc: A,
-    start: Start,
+    start: PlainStart,
     rows: &mut RowReader<'_>,
     keep: Option<u64>,
 ) -> Result<CheckedReport<A>, ScriptError>
-    requires opens { IsOpenable start }
+    requires opens { IsOpenable (start_of start) }
     requires ready { IsReady rows.old }
-    ensures { let rule = rule_of keep in MatchResult result
-        (λ report. IsPlainReportOfRows rule start (coming rows.old) report.text.items
-        × (report.differences ≡ differences_of rule (opened_with start (coming rows.old))))
+    ensures { let rule = rule_of keep in let script = start_of start in MatchResult result
+        (λ report. IsPlainReportOfRows rule script (coming rows.old) report.text.items
+        × (report.differences ≡ differences_of rule (opened_with script (coming rows.old))))
         (λ error. Fails error (coming rows.old)) }
 {
-    let mut clocks = CountedClocks::begin(alloc, start, keep);
+    let mut clocks = CountedClocks::begin(start, keep);
     let mut calendar = Calendar::new(alloc);
     let mut text = Vec::new(alloc);
     let (mut number, mut differences) = (1u64, 0u64);

@@ -8,7 +8,7 @@ ghost use Rattle.tk_script.specs.Start.{IsOpenable};
 ghost use Rattle.tk_report.specs.Folding.{rule_of};
 ghost use Rattle.tk_report.specs.Reports.{IsReportOfRows};
 
-use crate::beginning::{continued_at, steered_at};
+use crate::beginning::{Beginning, begin};
 use crate::checked_report::CheckedReport;
 use crate::reporting::report_plain;
 use crate::steered_reporting::report_steered;
@@ -40,13 +40,8 @@ pub fn report_rows<A: Allocator + Copy>(
         report.differences)
         (λ error. Fails error (coming rows.old)) }
 {
-    match start {
-        Start::Steered { opening, hz } => {
-            report_steered(alloc, steered_at(alloc, opening, hz), rows)
-        }
-        Start::Continued { clock, front } => {
-            report_steered(alloc, continued_at(alloc, clock, front), rows)
-        }
-        Start::Opened(_) | Start::Running { .. } => report_plain(alloc, start, rows, keep),
+    match begin(alloc, start) {
+        Beginning::Plain(start) => report_plain(alloc, start, rows, keep),
+        Beginning::Steered(clocks) => report_steered(alloc, clocks, rows),
     }
 }

@@ -6,18 +6,19 @@ use Rattle.tk_script.specs.Coming.{coming}
 use Rattle.tk_script.specs.Start.{journal_at}
 use Rattle.tk_report.specs.Trace.{journal_after}
 use Rattle.tk_report.proofs.Journals.{Fails-journal_after, journal_after-row}
+use Rattle.tk_report.specs.Beginnings.{start_of}
 use Rattle.tk_report.proofs.Beginnings.{few-at}
 use Rattle.tk_report.proofs.Lines.{counted_after}
 use Rattle.tk_report.proofs.journaling.plain_after.Goals as goal
 
 pub rows-init : goal.rows-init
 rows-init g c =
-    let start = c.args.start in
-    let opens : c.keeper_at-keeper.result.journal ≡ journal_at start = c.keeper_at-keeper.ensures in
+    let start = start_of c.args.start in
+    let opens : c.keeper-keeper.result.journal ≡ journal_at start = c.keeper-keeper.ensures in
     record {
       ready = c.requires.ready;
       same = ap (λ (j : Journal). journal_after j (coming c.args.rows.now)) (sym opens);
-      count = rw opens (omega (arith, few-at start c.requires.opens, c.requires.ready.count));
+      count = rw opens (omega (arith, few-at c.args.start c.requires.opens, c.requires.ready.count));
     }
 
 pub returns-in_err-row : goal.returns-in_err-row

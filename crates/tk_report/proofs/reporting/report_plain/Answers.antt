@@ -7,6 +7,7 @@ use Rattle.tk_script.specs.Lines.{open_line}
 use Rattle.tk_script.specs.Start.{journal_at}
 use Rattle.tk_report.specs.Folding.{rule_of}
 use Rattle.tk_report.specs.Report.{after, difference, differs_text, missed}
+use Rattle.tk_report.specs.Beginnings.{start_of}
 use Rattle.tk_report.proofs.Beginnings.{few-at}
 use Rattle.tk_report.proofs.Lines.{counted_after, difference_most, Fails-from, IsBegun, IsBegun-start, IsBegun-next, IsBegun-end}
 use Rattle.tk_report.proofs.reporting.report_plain.Goals as goal
@@ -14,7 +15,7 @@ use Rattle.tk_report.proofs.reporting.report_plain.Goals as goal
 pub rows-init : goal.rows-init
 rows-init g c =
     let rule = rule_of c.args.keep in
-    let start = c.args.start in
+    let start = start_of c.args.start in
     let all = coming c.args.rows.now in
     let kept = c.begin-clocks.ensures in
     let counter : c.desc-desc.result ≡ (journal_at start).opening.counter =
@@ -31,7 +32,7 @@ rows-init g c =
       begun = rw written (IsBegun-start rule start all);
       numbered = omega (arith, c.requires.ready.count);
       found = omega arith;
-      count = omega (arith, kept.count, few-at start c.requires.opens, c.requires.ready.count);
+      count = omega (arith, kept.count, few-at c.args.start c.requires.opens, c.requires.ready.count);
     }
 
 pub returns-in_err-row : goal.returns-in_err-row
@@ -45,7 +46,7 @@ returns-in_err-row g c =
 pub rows-preserved : goal.rows-preserved
 rows-preserved g c =
     let rule = rule_of c.args.keep in
-    let start = c.args.start in
+    let start = start_of c.args.start in
     let all = coming c.args.rows.now in
     let row = c.in-Some.row in
     let number = c.rows.number + 1 in
@@ -92,6 +93,6 @@ rows-preserved g c =
 pub returns : goal.returns
 returns g c =
     let none : coming c.rows.rows ≡ Ok [] = search rules in
-    IsBegun-end (rule_of c.args.keep) c.args.start (coming c.args.rows.now) (c.rows.number + 1)
+    IsBegun-end (rule_of c.args.keep) (start_of c.args.start) (coming c.args.rows.now) (c.rows.number + 1)
     c.rows.differences c.rows.invariant.journal (coming c.rows.rows) c.rows.text.items
     c.rows.invariant.begun none

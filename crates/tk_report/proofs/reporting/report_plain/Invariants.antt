@@ -2,6 +2,7 @@ use Rattle.std.proofs.Common.{◌≤◌, ◌+◌, ◌^◌}
 use Rattle.tk_clock.specs.Journal.{Journal}
 use Rattle.tk_script.specs.Coming.{IsReady, coming, records_left}
 use Rattle.tk_script.specs.Start.{most_front}
+use Rattle.tk_report.specs.Beginnings.{start_of}
 use Rattle.tk_report.specs.CountedClocks.{IsKept}
 use Rattle.tk_report.specs.Folding.{rule_of}
 use Rattle.tk_report.proofs.Lines.{IsBegun}
@@ -14,7 +15,7 @@ invariant-rows g l = record {
   ready : IsReady l.rows;
   journal : Journal;
   kept : IsKept l.fn.keep l.clocks journal;
-  begun : IsBegun (rule_of l.fn.keep) l.fn.start (coming l.fn.rows) (l.number + 1) l.differences
+  begun : IsBegun (rule_of l.fn.keep) (start_of l.fn.start) (coming l.fn.rows) (l.number + 1) l.differences
       journal (coming l.rows) l.text.items;
   numbered : l.number + records_left l.rows ≤ 2 ^ 32;
   found : l.differences ≤ l.number;
