@@ -47,6 +47,9 @@ void net_bind(int file, uint32_t address);
 int net_hand_over(struct message *message, const struct msghdr *content, const int *files,
 		  size_t count);
 
+/* Asks tkrun to look who gets what a socket sends to a name to which no link leads. */
+void net_note_stray(int file, const struct sockaddr *name, socklen_t length);
+
 /* Sets errno, and returns -1. */
 int net_refuse(int error);
 

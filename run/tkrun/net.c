@@ -149,6 +149,8 @@ static bool take(uint64_t now)
 		close_all(files);
 	else if (message->kind == MESSAGE_CONNECT)
 		take_connection(message, files[0], files[1], now);
+	else if (message->kind == MESSAGE_STRAY)
+		take_stray(message, files[0]);
 	else
 		take_datagram(message, parcel.bytes,
 			      (size_t)length - sizeof(*message) - message->control_length, files[0],
