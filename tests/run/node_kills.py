@@ -57,8 +57,8 @@ class NodeKillTest(LinkTest):
         run = self.start(*self.options, *links, "--every", 100, "--check",
                          *self.script(programs, before))
         self.assertEqual((0, ""), (run.returncode, run.stdout), run.stderr)
-        killed, = (self.folder / "killed").read_text().splitlines()
-        self.assertRegex(killed, "^killed [0-9]+$")
+        killed = (self.folder / "killed").read_text()
+        self.assertRegex(killed, r"\Akilled [0-9]+\n\Z")
         self.assertGreaterEqual(int(killed.split()[1]), count)
         (beats, files), = self.read("a")
         # (the rest of the last second before the killer began)

@@ -10,7 +10,8 @@
  * The first does deeds in a random order without end: it sleeps, waits, sets its clocks, sends over
  * the link to the address PEER, connects to PORT there, starts threads and processes, and executes
  * PROGRAM, which starts it on a node with `nothing`. It ends with status 1 if a call fails, or a
- * sleep doesn't take its span and 1 ns. The second is traced by its parent. It does one deed twice,
+ * sleep doesn't take its span and 1 ns. (A static program may wake from other waits just before the
+ * counter moves, so its sleeps may take longer.) The second is traced by its parent. It does one deed twice,
  * and stops before each: DEED is its number. The third takes connections, one after another.
  */
 #define _GNU_SOURCE
@@ -24,6 +25,7 @@
 #include <stdio.h>
 #include <stdlib.h>
 #include <string.h>
+#include <sys/auxv.h>
 #include <sys/ptrace.h>
 #include <sys/time.h>
 #include <sys/timex.h>
@@ -55,11 +57,14 @@ static long long monotonic(void)
 static void sleep_once(void)
 {
 	const struct timespec span = { 0, 20000 };
-	long long start = monotonic();
+	long long start = monotonic(), slept;
 
 	check(!nanosleep(&span, NULL), "nanosleep");
-	errno = 0;
-	check(monotonic() == start + span.tv_nsec + 1, "a sleep has another length");
+	slept = monotonic() - start;
+	if (slept == span.tv_nsec + 1 || (slept > span.tv_nsec && !getauxval(AT_BASE)))
+		return;
+	fprintf(stderr, "nodes_victim: a sleep of %ld ns takes %lld\n", span.tv_nsec, slept);
+	_exit(EXIT_FAILURE);
 }
 
 static void set_clock(void)
