@@ -23,9 +23,12 @@ class ReadSteps(RunTest):
         self.assertEqual(self.seconds(["9:50"], COUNTED, "all", 3), [1000] * 9 + [1050] * 9)
 
     def test_several_steps_in_the_order_of_their_reads(self):
-        steps = ["6:-50.5", "2:+50.25", "4:1", "4:2", "99:7"]
+        steps = ["6:-50.25", "2:+50.75", "4:1", "4:2", "99:7"]
         self.assertEqual(self.seconds(steps, COUNTED, "gettime", 8),
-                         [1000] * 2 + [1050] * 2 + [1053] * 2 + [1002] * 2)
+                         [1000] * 2 + [1050] * 2 + [1053] * 2 + [1003] * 2)
+        # the first one is refused, since the clocks would be before 1970
+        self.assertEqual(self.seconds(["2:-1500", "2:+1000"], COUNTED, "gettime", 3),
+                         [1000, 1000, 2000])
 
     def test_the_first_read_and_the_most_steps(self):
         self.assertEqual(self.seconds([f"{i + 1}:1" for i in range(16)], COUNTED, "time", 18),
@@ -46,6 +49,15 @@ class ReadSteps(RunTest):
         # a read may have its time, and be counted after the step
         before, = self.seconds(["70000:+50"], COUNTED, "threads", 100000, 1000)
         self.assertTrue(70000 <= before <= 70003, before)
+
+    def test_threads_that_come_to_several_steps_at_once(self):
+        # each is made once
+        for first in [5000, 20000, 40000]:
+            steps = [f"{first + i}:1" for i in range(16)]
+            text = (f"{COUNTED} threads 60000 0 & {COUNTED} threads 60000 0; wait; "
+                    f"{COUNTED} time 1")
+            self.assertEqual(self.seconds(steps, "dash", "-c", text, options=["--reads", 1000]),
+                             [0, 0, START + 16])
 
     def test_each_node_has_its_own(self):
         options = ["--node", "a,step-after-reads=1:100,step-after-reads=3:100", "--node", "b"]
