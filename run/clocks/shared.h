@@ -40,9 +40,13 @@ struct shared_lines {
 enum { PEERS_MOST = 64 };
 
 /* The addresses of IPv4, in the network's order, of a node with links, or 0, and of the nodes to
- * which it has a link, by their numbers minus 1. */
+ * which it has a link, by their numbers minus 1. With --stamps, a sink drops the copies of
+ * datagrams that are sent for their stamps: its port and address, in the network's order. */
 struct peers {
 	uint32_t own, count, of[PEERS_MOST];
+	uint32_t sink_address;
+	uint16_t sink_port;
+	bool binds_own; /* a socket that is bound to no address gets the node's */
 };
 
 /*

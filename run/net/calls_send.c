@@ -68,6 +68,7 @@ static ssize_t hand_over(int file, const struct msghdr *content, uint32_t addres
 		memcpy(&message.to, content->msg_name, message.to_length);
 	}
 	net_bind(file, 0);
+	net_stamp(file, content);
 	error = net_hand_over(&message, content, &file, 1);
 	return error ? -error : (ssize_t)length;
 }

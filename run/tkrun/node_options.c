@@ -15,7 +15,7 @@ static const char *const RESERVED[] = { "rows", "nodes", "readers", TRUE_NAME, "
 
 static const char *const OPTIONS[] = { "error-ppm",  "start", "ahead", "uptime", "script", "hz",
 				       "bits",	     "maxsec", "wander-ppm", "seed", "address",
-				       "step-after-reads" };
+				       "bind", "step-after-reads" };
 
 bool is_node_name(const char *text)
 {
@@ -110,6 +110,8 @@ static void parse_node(const struct options *all, const char *words, struct opti
 		parse_word(node, word);
 	if (all->record)
 		node->record = copy_of(all->record, node->name);
+	if (node->binds_own && !node->address)
+		fail(STATUS_WRONG, "bind=own needs an address");
 	if (node->wander_ppm != 0 && all->counter != COUNTER_SLEEPS)
 		fail(STATUS_WRONG, "wander-ppm needs --counter sleeps");
 	compare_options(node);

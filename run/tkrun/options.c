@@ -148,6 +148,10 @@ static bool parse_nodes_option(struct options *o, const char *name, const char *
 		add_link(o, value);
 	else if (!strcmp(name, "address"))
 		o->address = parse_address(value);
+	else if (!strcmp(name, "bind") && !strcmp(value, "own"))
+		o->binds_own = true;
+	else if (!strcmp(name, "bind"))
+		fail(STATUS_WRONG, "bind '%s' isn't own", value);
 	else
 		return false;
 	return true;

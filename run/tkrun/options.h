@@ -68,6 +68,7 @@ struct options {
 	size_t node_count;
 	struct options *nodes;
 	uint32_t address; /* of a node, of IPv4 in the network's order, or 0 */
+	bool binds_own;   /* bind=own */
 	const char **link_words;
 	size_t link_count;
 	struct link_options *links; /* one for each direction */
