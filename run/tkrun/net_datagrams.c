@@ -73,14 +73,15 @@ static bool has_no_address(int file)
 }
 
 /* Appends a part to control data. Returns its length. */
-static size_t put_part(char *control, size_t length, struct cmsghdr head, const void *value)
+static size_t put_part(char *control, size_t length, const struct cmsghdr *head,
+		       const void *value)
 {
 	size_t at = CMSG_ALIGN(length);
 
 	memset(control + length, 0, at - length);
-	memcpy(control + at, &head, sizeof(head));
-	memcpy(CMSG_DATA((struct cmsghdr *)(control + at)), value, head.cmsg_len - CMSG_LEN(0));
-	return at + CMSG_ALIGN(head.cmsg_len);
+	memcpy(control + at, head, sizeof(*head));
+	memcpy(CMSG_DATA((struct cmsghdr *)(control + at)), value, head->cmsg_len - CMSG_LEN(0));
+	return at + CMSG_ALIGN(head->cmsg_len);
 }
 
 /* Stores the control data. The node's address sends, unless the program says otherwise. The library
@@ -98,9 +99,9 @@ static size_t put_control(const struct datagram *datagram, char *control)
 
 	memcpy(control, datagram->bytes, length);
 	if (!length && has_no_address(datagram->sender->file))
-		length = put_part(control, 0, source, &info);
+		length = put_part(control, 0, &source, &info);
 	if (node_machine(message->node)->shared->has_stamps)
-		length = put_part(control, length, stamps, &no_stamps);
+		length = put_part(control, length, &stamps, &no_stamps);
 	return length;
 }
 
