@@ -1,5 +1,5 @@
 /* SPDX-License-Identifier: MIT OR Apache-2.0 */
-/* calls_bind.c - with bind=own, a socket that a program binds to no address gets that of its node. */
+/* calls_bind.c - with bind=own, a socket that is bound to no address gets that of its node. */
 #define _GNU_SOURCE
 #include "net.h"
 #include "clocks/machine.h"
@@ -16,7 +16,7 @@ static bool is_six_only(int file)
 	return value;
 }
 
-/* Stores a name with the address of the node instead of none. Returns false if it has an address. */
+/* Stores a name with the address of the node instead of none. Returns false if it has one. */
 static bool put_own(int file, const struct sockaddr *name, socklen_t length,
 		    union socket_name *own)
 {

@@ -1,8 +1,8 @@
 /* SPDX-License-Identifier: MIT OR Apache-2.0 */
 /*
- * stamps.c - stamps of SO_TIMESTAMPING for what is sent over a link. tkrun sends it by the program's
- * socket when it arrives, which is too late for the stamp. So the library sends a copy to a sink
- * now, and the kernel puts the copy with its stamp into the error queue of the socket.
+ * stamps.c - stamps of SO_TIMESTAMPING for what is sent over a link. tkrun sends it by the
+ * program's socket when it arrives, which is too late for the stamp. So the library sends a copy to
+ * a sink now, and the kernel puts the copy with its stamp into the error queue of the socket.
  */
 #define _GNU_SOURCE
 #include "net.h"

@@ -3,8 +3,8 @@
  * Reads the clocks, and prints the second of REALTIME of each read.
  *
  *     counted CALL READS            one of CALLS, or "all": each of them in turn
- *     counted threads READS BEFORE  in four threads, until all have read READS times: prints how many
- *                                   of them were at most BEFORE
+ *     counted threads READS BEFORE  in four threads, until all have read READS times: prints how
+ *                                   many of the seconds were at most BEFORE
  */
 #define _GNU_SOURCE
 #include <pthread.h>

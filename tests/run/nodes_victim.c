@@ -11,8 +11,9 @@
  * the link to the address PEER, connects to PORT there, starts threads and processes, and executes
  * PROGRAM, which starts it on a node with `nothing`. It ends with status 1 if a call fails, or a
  * sleep doesn't take its span and 1 ns. (A static program may wake from other waits just before the
- * counter moves, so its sleeps may take longer.) The second is traced by its parent. It does one deed twice,
- * and stops before each: DEED is its number. The third takes connections, one after another.
+ * counter moves, so its sleeps may take longer.) The second is traced by its parent. It does one
+ * deed twice, and stops before each: DEED is its number. The third takes connections, one after
+ * another.
  */
 #define _GNU_SOURCE
 #include <arpa/inet.h>

@@ -27,12 +27,12 @@ class Bind(LinkTest):
             with self.subTest(name=name):
                 out = self.on_links(["a,b,delay=1"], {
                     "a": f"""
-                        s, t = (make(kind, "{name}") for kind in (socket.SOCK_DGRAM, socket.SOCK_STREAM))
+                        s, t = make(socket.SOCK_DGRAM, "{name}"), make(socket.SOCK_STREAM, "{name}")
                         s.sendto(b"1", ("::ffff:" * (":" in "{name}") + B, PORT))
                         t.listen(); c = t.accept()[0]; print(c.recv(9).decode(), now())
                         """,
                     "b": f"""
-                        s, t = (make(kind, "{name}") for kind in (socket.SOCK_DGRAM, socket.SOCK_STREAM))
+                        s, t = make(socket.SOCK_DGRAM, "{name}"), make(socket.SOCK_STREAM, "{name}")
                         text, peer = s.recvfrom(9); print(text.decode(), peer[0].endswith(A), now())
                         c = socket.create_connection((A, PORT)); c.send(b"2"); time.sleep(3)
                         """})
@@ -44,9 +44,10 @@ class Bind(LinkTest):
         text = """
             def free(kind, name, only=0): make(kind, name, only).close()
             for kind in socket.SOCK_DGRAM, socket.SOCK_STREAM:
-                for name, only in [("0.0.0.0", 0), ("::", 0), ("::", 1), ("127.0.0.1", 0), ("::1", 0),
-                                   (A, 0), ("::ffff:" + A, 0)]:
-                    s = make(kind, name, only); print(s.getsockname()[0], s.getsockname()[1] == PORT)
+                for name, only in [("0.0.0.0", 0), ("::", 0), ("::", 1), ("127.0.0.1", 0),
+                                   ("::1", 0), (A, 0), ("::ffff:" + A, 0)]:
+                    s = make(kind, name, only)
+                    print(s.getsockname()[0], s.getsockname()[1] == PORT)
                     s.close()
             s = udp("", 0); print(s.getsockname()[0], s.getsockname()[1] > 0)
             s = socket.socket(socket.AF_UNIX); s.bind(chr(0) + A); print("unix")

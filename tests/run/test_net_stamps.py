@@ -152,7 +152,8 @@ class StampsOfWhatIsSent(LinkTest):
         out = self.on_links(["a,b,delay=20ms"], {
             "a": "s = udp(); ask(s); time.sleep(1); s.sendto(b'000', AT_B)\n"
                  "poll = select.poll(); poll.register(s, select.POLLPRI)\n"
-                 "print(poll.poll(1)[0][1] == select.POLLERR); show(); stamps(s); print(poll.poll(50))"})
+                 "print(poll.poll(1)[0][1] == select.POLLERR); show(); stamps(s)\n"
+                 "print(poll.poll(50))"})
         self.assertEqual(out["a"], [["True"], [self.now(1)], self.expected(["000"])[0], ["[]"]])
 
     def test_what_the_link_loses_is_stamped(self):

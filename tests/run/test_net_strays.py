@@ -1,4 +1,4 @@
-"""What goes from one node to another by an address to which no link leads: tkrun names the nodes."""
+"""What goes from one node to another by an address to which no link leads: tkrun names both."""
 import unittest
 
 from links import PORT, LinkTest
@@ -82,7 +82,8 @@ class Strays(LinkTest):
         self.check("\n    time.sleep(9.5)" + DATAGRAM.format("AF_INET6", "::1"), send, said("::1"))
 
     def test_what_is_not_said(self):
-        six = DATAGRAM.format("AF_INET6", "::1"), SEND.format("AF_INET6", 'sendto(b"1", ("::1", PORT))')
+        six = (DATAGRAM.format("AF_INET6", "::1"),
+               SEND.format("AF_INET6", 'sendto(b"1", ("::1", PORT))'))
         self.check(*six, "", ["a,c", "b,c"])  # there is no link between them
         over = DATAGRAM.format("AF_INET", "0.0.0.0"), SEND.format("AF_INET", 'sendto(b"1", AT_B)')
         self.check(*over, "")
@@ -93,7 +94,8 @@ class Strays(LinkTest):
         text = """
             for family, name in [(socket.AF_INET6, "::1"), (socket.AF_INET, "127.0.0.1")]:
                 s = socket.create_server((name, PORT), family=family)
-                t = socket.create_connection((name, PORT)); t.send(b"1"); print(s.accept()[0].recv(9))
+                t = socket.create_connection((name, PORT)); t.send(b"1")
+                print(s.accept()[0].recv(9))
                 u = socket.socket(family, socket.SOCK_DGRAM); u.bind((name, PORT))
                 t = socket.socket(family, socket.SOCK_DGRAM); t.sendto(b"1", (name, PORT))
                 print(u.recv(9))
@@ -109,7 +111,8 @@ class Strays(LinkTest):
         text = """
             s = socket.socket(socket.AF_INET6)
             print(errno.errorcode[s.connect_ex(("::1", PORT))])
-            try: socket.socket(socket.AF_INET6, socket.SOCK_DGRAM).sendto(b"1" * 70000, ("::1", PORT))
+            s = socket.socket(socket.AF_INET6, socket.SOCK_DGRAM)
+            try: s.sendto(b"1" * 70000, ("::1", PORT))
             except OSError as error: print(errno.errorcode[error.errno])
         """
         out = self.on_links(["a,b"], {"a": text})

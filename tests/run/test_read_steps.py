@@ -89,8 +89,8 @@ class ReadSteps(RunTest):
                          [1000, 1001, 1002, 1053, 1054])
 
     def test_a_counter_that_runs(self):
-        out = self.run_on("--start", START, "--step-after-reads", "3:+500", "--check", "--", COUNTED,
-                          "gettime", 5)
+        out = self.run_on("--start", START, "--step-after-reads", "3:+500", "--check", "--",
+                          COUNTED, "gettime", 5)
         self.assertEqual([int(second) // 500 for second in out.split()], [2] * 3 + [3] * 2)
 
     def test_it_ends_waits(self):
