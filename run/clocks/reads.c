@@ -5,6 +5,7 @@
 
 #include "counter.h"
 #include "kept.h"
+#include "read_steps.h"
 #include "rows.h"
 #include "saved_words.h"
 
@@ -129,7 +130,7 @@ static void record_read(struct machine *machine, uint32_t clock,
 	rows_add_read(machine, &row, call);
 }
 
-/* Counts a read, and returns whether it is to be recorded or has a cost. */
+/* Counts a read, and returns whether note_read looks at it. */
 static inline bool count_read(struct machine *machine)
 {
 	struct control *control = machine->control;
@@ -170,7 +171,8 @@ SELDOM static void move_by_read(struct machine *machine, const struct kept *kept
 		machine_command(machine, TKC_CMD_UPDATE, 0, 0);
 }
 
-/* Records a read if it is the thread's next one to be recorded, and lets it cost something. */
+/* Records a read if it is the thread's next one to be recorded, lets it cost something, and counts
+ * it for the steps that come after reads. */
 SELDOM static void note_read(struct machine *machine, uint32_t clock, enum tkc_code code,
 			     const struct kept *kept, uint64_t reading,
 			     const struct tkc_time *time, enum read_call call)
@@ -181,6 +183,8 @@ SELDOM static void note_read(struct machine *machine, uint32_t clock, enum tkc_c
 		record_read(machine, clock, code, kept, reading, time, call);
 	if (machine->shared->read_cost)
 		move_by_read(machine, kept);
+	if (machine->control->read_steps.count && (code == TKC_OK || code == TKC_RANGE))
+		read_steps_count(machine);
 }
 
 /* Reads a coarse clock, which needs no reading of the counter. */

@@ -40,9 +40,13 @@ struct shared_lines {
 enum { PEERS_MOST = 64 };
 
 /* The addresses of IPv4, in the network's order, of a node with links, or 0, and of the nodes to
- * which it has a link, by their numbers minus 1. */
+ * which it has a link, by their numbers minus 1. With --stamps, a sink drops the copies of
+ * datagrams that are sent for their stamps: its port and address, in the network's order. */
 struct peers {
 	uint32_t own, count, of[PEERS_MOST];
+	uint32_t sink_address;
+	uint16_t sink_port;
+	bool binds_own; /* a socket that is bound to no address gets the node's */
 };
 
 /*
@@ -130,7 +134,7 @@ struct rows {
 	_Atomic uint32_t wanted;
 	atomic_bool is_full; /* no room will be made */
 	uint64_t every;	     /* 0: no record */
-	uint64_t looks_every; /* the same, or 1 if each read has a cost */
+	uint64_t looks_every; /* the same, or 1 if each read has a cost or is counted */
 	_Atomic uint64_t reads; /* that were to be recorded */
 	uint64_t reads_most;
 	bool has_readers;    /* a row says who made each read */
@@ -155,6 +159,20 @@ struct moves {
 	} of[MOVES_MOST];
 };
 
+/* Steps of REALTIME, in the order of the reads after which they come: of all threads, in the order
+ * in which they are counted. */
+enum { READ_STEPS_MOST = 16 };
+struct read_steps {
+	_Atomic uint64_t reads; /* that were counted, if there is a step */
+	_Atomic uint32_t made;	/* steps; only who has the lock changes it */
+	uint32_t count;
+	struct read_step {
+		uint64_t reads;
+		int64_t sec;
+		uint32_t nsec;
+	} of[READ_STEPS_MOST];
+};
+
 struct control {
 	_Alignas(64) pthread_mutex_t lock;
 	struct tkc_ntp clocks[2];
@@ -169,6 +187,7 @@ struct control {
 	_Alignas(64) struct rows rows;
 	_Alignas(64) struct log log;
 	struct moves moves;
+	_Alignas(64) struct read_steps read_steps;
 	struct waiter waiters[WAITERS_MOST];
 };
 

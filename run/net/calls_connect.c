@@ -71,11 +71,16 @@ EXPORT int connect(int file, __CONST_SOCKADDR_ARG to, socklen_t length)
 {
 	uint32_t address = net_address(to.__sockaddr__, length);
 	int type = address ? net_type(file) : -1, saved = errno, error;
+	bool is_own = net_is_own(to.__sockaddr__, length);
 
-	if (type == SOCK_DGRAM || net_is_own(to.__sockaddr__, length))
+	if (type == SOCK_DGRAM || is_own)
 		net_bind(file, net_peers()->own);
-	if (type != SOCK_STREAM || is_in_use(file))
-		return REAL(connect)(file, to, length);
+	if (type != SOCK_STREAM || is_in_use(file)) {
+		error = REAL(connect)(file, to, length);
+		if (!address && !is_own && (!error || errno == EINPROGRESS))
+			net_note_stray(file, to.__sockaddr__, length);
+		return error;
+	}
 	error = connect_over(file, to.__sockaddr__, length, address);
 	errno = saved;
 	return error ? net_refuse(error) : 0;

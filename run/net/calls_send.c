@@ -68,6 +68,7 @@ static ssize_t hand_over(int file, const struct msghdr *content, uint32_t addres
 		memcpy(&message.to, content->msg_name, message.to_length);
 	}
 	net_bind(file, 0);
+	net_stamp(file, content);
 	error = net_hand_over(&message, content, &file, 1);
 	return error ? -error : (ssize_t)length;
 }
@@ -86,13 +87,23 @@ static bool send_over(int file, const struct msghdr *message, int flags, ssize_t
 	return true;
 }
 
+/* Sends a message that isn't one over a link. */
+static ssize_t send_beside(int file, const struct msghdr *message, int flags)
+{
+	ssize_t result = REAL(sendmsg)(file, message, flags);
+
+	if (result >= 0 && message->msg_name)
+		net_note_stray(file, message->msg_name, message->msg_namelen);
+	return result;
+}
+
 EXPORT ssize_t sendmsg(int file, const struct msghdr *message, int flags)
 {
 	ssize_t result;
 
 	if (net_peers() && send_over(file, message, flags, &result))
 		return result;
-	return REAL(sendmsg)(file, message, flags);
+	return send_beside(file, message, flags);
 }
 
 EXPORT int sendmmsg(int file, struct mmsghdr *messages, unsigned int count, int flags)
@@ -101,7 +112,7 @@ EXPORT int sendmmsg(int file, struct mmsghdr *messages, unsigned int count, int 
 
 	for (unsigned int i = 0; i < count; i++) {
 		if (!net_peers() || !send_over(file, &messages[i].msg_hdr, flags, &result))
-			result = REAL(sendmsg)(file, &messages[i].msg_hdr, flags);
+			result = send_beside(file, &messages[i].msg_hdr, flags);
 		if (result < 0)
 			return i ? (int)i : -1;
 		messages[i].msg_len = (unsigned int)result;
@@ -125,7 +136,10 @@ EXPORT ssize_t sendto(int file, const void *bytes, size_t length, int flags,
 		return net_refuse(EOPNOTSUPP);
 	if (net_peers() && send_over(file, &message, flags, &result))
 		return result;
-	return REAL(sendto)(file, bytes, length, flags, to, to_length);
+	result = REAL(sendto)(file, bytes, length, flags, to, to_length);
+	if (result >= 0 && name)
+		net_note_stray(file, name, to_length);
+	return result;
 }
 
 EXPORT ssize_t send(int file, const void *bytes, size_t length, int flags)

@@ -11,7 +11,8 @@
 
 enum message_kind {
 	MESSAGE_DATAGRAM, /* to be sent when it arrives */
-	MESSAGE_CONNECT	  /* to be connected; a second file gets the errno of connect(2) */
+	MESSAGE_CONNECT,  /* to be connected; a second file gets the errno of connect(2) */
+	MESSAGE_STRAY	  /* was sent to a name to which no link leads */
 };
 
 /* If tkrun ends an attempt to connect a socket that doesn't block, it stores the errno as its

@@ -47,6 +47,12 @@ void net_bind(int file, uint32_t address);
 int net_hand_over(struct message *message, const struct msghdr *content, const int *files,
 		  size_t count);
 
+/* Asks tkrun to look who gets what a socket sends to a name to which no link leads. */
+void net_note_stray(int file, const struct sockaddr *name, socklen_t length);
+
+/* Lets the kernel stamp a message that goes over a link now, if the program asks for it. */
+void net_stamp(int file, const struct msghdr *message);
+
 /* Sets errno, and returns -1. */
 int net_refuse(int error);
 

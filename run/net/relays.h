@@ -18,6 +18,9 @@
 #define RELAYS_FIRST UINT32_C(0x7f400000)
 #define RELAYS_END UINT32_C(0x7f800000)
 
+/* 127.128.0.1, to which copies of datagrams are sent for their stamps. */
+#define SINK_ADDRESS UINT32_C(0x7f800001)
+
 /* Returns the address that stands for a port, both in the network's order, of a node. */
 static inline uint32_t relay_address(size_t node, uint16_t port)
 {

@@ -14,16 +14,19 @@
 #include <sys/socket.h>
 #include <sys/time.h>
 
-/* Returns whether SO_TIMESTAMPING is to stamp what arrives, by the kernel's clock, and nothing
- * else. */
-static bool asks_for_arrivals(const void *value, socklen_t length)
+/* Returns whether SO_TIMESTAMPING is to stamp what arrives and what is sent, by the kernel's clock,
+ * and nothing else. */
+static bool asks_for_kernel(const void *value, socklen_t length)
 {
+	const uint32_t known = SOF_TIMESTAMPING_TX_SOFTWARE | SOF_TIMESTAMPING_RX_SOFTWARE |
+			       SOF_TIMESTAMPING_SOFTWARE | SOF_TIMESTAMPING_OPT_ID |
+			       SOF_TIMESTAMPING_OPT_CMSG | SOF_TIMESTAMPING_OPT_TSONLY;
 	uint32_t flags;
 
 	if (!value || length < sizeof(flags))
 		return false;
 	memcpy(&flags, value, sizeof(flags));
-	return !(flags & ~(SOF_TIMESTAMPING_RX_SOFTWARE | SOF_TIMESTAMPING_SOFTWARE));
+	return !(flags & ~known);
 }
 
 EXPORT int setsockopt(int file, int level, int name, const void *value,
@@ -42,7 +45,7 @@ EXPORT int setsockopt(int file, int level, int name, const void *value,
 			break;
 		return refuse(ENOPROTOOPT);
 	case SO_TIMESTAMPING_OLD:
-		if (m->shared->has_stamps && asks_for_arrivals(value, length))
+		if (m->shared->has_stamps && asks_for_kernel(value, length))
 			break;
 		return refuse(ENOPROTOOPT);
 	case SO_TIMESTAMP_NEW:

@@ -110,7 +110,8 @@ bool tree_is_quiet(struct tree *tree)
 	if (running)
 		return false;
 	find_waits(tree);
-	is_quiet = scan_again(tree, &second) && is_unmoved(tree, &second);
+	is_quiet = scan_again(tree, &second) && is_unmoved(tree, &second) &&
+		   !tree_has_other_children(tree);
 	free(second.threads);
 	return is_quiet;
 }

@@ -138,14 +138,32 @@ bool tree_check(struct tree *tree, int32_t thread)
 
 static bool add_process(struct tree *tree, int32_t process, int depth);
 
-static bool add_children(struct tree *tree, const char *folder, int depth)
+/* Returns a number that is made of a list of children, or 0 if it is none. */
+static uint64_t sum_of(const char *list)
 {
-	char path[128], *text, *next, *end;
+	uint64_t sum = 0;
+
+	for (const char *at = list; at && *at; at++)
+		sum = sum * HASH + (unsigned char)*at;
+	return sum;
+}
+
+static char *list_children(const char *folder)
+{
+	char path[128];
+
+	snprintf(path, sizeof(path), "%s/children", folder);
+	return proc_read_list(path);
+}
+
+/* Adds the children of a thread, and stores what is made of them. */
+static bool add_children(struct tree *tree, const char *folder, int depth, uint64_t *sum)
+{
+	char *text = list_children(folder), *next = text, *end;
 	bool is_done = true;
 	long child;
 
-	snprintf(path, sizeof(path), "%s/children", folder);
-	text = next = proc_read_list(path);
+	*sum = sum_of(text);
 	while (is_done && next && (child = strtol(next, &end, 10)) > 0) {
 		is_done = add_process(tree, (int32_t)child, depth + 1);
 		next = end;
@@ -160,7 +178,9 @@ static bool add_process(struct tree *tree, int32_t process, int depth)
 {
 	char name[32], folder[64];
 	struct dirent *entry;
-	bool is_done = true;
+	bool is_done = true, is_thread;
+	uint64_t sum;
+	size_t place;
 	DIR *tasks;
 
 	snprintf(name, sizeof(name),
@@ -180,9 +200,15 @@ static bool add_process(struct tree *tree, int32_t process, int depth)
 			continue;
 		snprintf(folder, sizeof(folder), "%s/%.16s", name,
 			 entry->d_name);
+		place = tree->count;
 		if (process)
 			is_done = tree_add(tree, process, atoi(entry->d_name));
-		is_done = is_done && add_children(tree, folder, depth);
+		is_thread = tree->count > place;
+		is_done = is_done && add_children(tree, folder, depth, &sum);
+		if (is_thread)
+			tree->threads[place].children = sum;
+		else if (!process)
+			tree->children += sum;
 	}
 	closedir(tasks);
 	return is_done;
@@ -192,7 +218,34 @@ bool tree_scan(struct tree *tree)
 {
 	tree->count = 0;
 	tree->process_count = 0;
+	tree->children = 0;
 	return add_process(tree, 0, 0);
+}
+
+static uint64_t sum_children(int32_t process, int32_t thread)
+{
+	char folder[64], *list;
+	uint64_t sum;
+
+	snprintf(folder, sizeof(folder), "/proc/%d/task/%d", process, thread);
+	list = list_children(folder);
+	sum = sum_of(list);
+	free(list);
+	return sum;
+}
+
+/* A process that has no child can't get that of another one. Only the main thread of tkrun has
+ * children. */
+bool tree_has_other_children(const struct tree *tree)
+{
+	for (size_t i = 0; i < tree->count; i++) {
+		const struct thread_state *state = &tree->threads[i];
+
+		if (state->children &&
+		    sum_children(state->process, state->thread) != state->children)
+			return true;
+	}
+	return sum_children(getpid(), getpid()) != tree->children;
 }
 
 void tree_signal(struct tree *tree, int number)

@@ -9,11 +9,12 @@
  * A thread, when it was looked at. `switches` counts how often it has left a
  * processor, and `sleeps` how often to wait. `place` says where it waits: the call
  * with its arguments and its stack. `waits` is made of its entries in the list of
- * those that wait, or 0, and `slices` is the number of their slices.
+ * those that wait, or 0, and `slices` is the number of their slices. `children` is
+ * made of its children, or 0.
  */
 struct thread_state {
 	int32_t thread, process;
-	uint64_t switches, sleeps, place, waits, slices;
+	uint64_t switches, sleeps, place, waits, slices, children;
 	bool is_waiting; /* for anything: it isn't running or about to */
 	bool is_ended;
 	bool has_wake;	 /* its process handles WAKE_SIGNAL */
@@ -30,6 +31,7 @@ struct tree {
 	bool has_filter; /* tkrun answers calls of the processes */
 	const struct control **controls; /* the lists of those that wait */
 	size_t control_count;
+	uint64_t children; /* made of those of tkrun */
 	int32_t running; /* a thread that didn't wait at the last scan, or was woken, or 0 */
 	struct thread_state *threads;
 	size_t count, room;
@@ -40,6 +42,11 @@ struct tree {
 /* Lists all processes below tkrun and their threads. Returns false if memory
  * is missing. */
 bool tree_scan(struct tree *tree);
+
+/* Returns whether a process has got another child since the last scan, or lost one, also if the
+ * scan has missed it: if its parent has died since the children of tkrun were listed, it is one of
+ * these now. */
+bool tree_has_other_children(const struct tree *tree);
 
 /* A factor for sums of parts: odd, without small factors. */
 static const uint64_t HASH = 0x9e3779b97f4a7c15;

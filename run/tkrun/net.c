@@ -2,6 +2,7 @@
 /* net.c - takes what programs hand to tkrun, and lets it go on. */
 #define _GNU_SOURCE
 #include "net.h"
+#include "net/relays.h"
 
 #include <errno.h>
 #include <stdio.h>
@@ -47,6 +48,26 @@ static void raise_limit(void)
 	setrlimit(RLIMIT_NOFILE, &limit);
 }
 
+/* Opens a socket that nobody reads, and whose queue is soon full. Without it, no datagram over a
+ * link is stamped when it is sent. */
+static void open_sink(struct run *run)
+{
+	struct sockaddr_in name = { .sin_family = AF_INET, .sin_addr.s_addr = htonl(SINK_ADDRESS) };
+	int file = socket(AF_INET, SOCK_DGRAM | SOCK_CLOEXEC, 0), least = 1;
+	socklen_t length = sizeof(name);
+
+	setsockopt(file, SOL_SOCKET, SO_RCVBUF, &least, sizeof(least));
+	if (bind(file, (struct sockaddr *)&name, length) ||
+	    getsockname(file, (struct sockaddr *)&name, &length))
+		fail(STATUS_FAILED, "cannot make the sink of --stamps: %s", strerror(errno));
+	for (size_t i = 0; i < run->count; i++) {
+		struct peers *peers = &run->nodes[i].machine.shared->peers;
+
+		peers->sink_address = name.sin_addr.s_addr;
+		peers->sink_port = name.sin_port;
+	}
+}
+
 void net_open(struct run *run)
 {
 	const char *folder = run->nodes->folder;
@@ -65,6 +86,8 @@ void net_open(struct run *run)
 	outbox = socket(AF_UNIX, SOCK_DGRAM | SOCK_CLOEXEC, 0);
 	if (outbox >= 0 && !connect(outbox, (struct sockaddr *)&address, sizeof(address)))
 		files_offer_net(outbox);
+	if (run->nodes->options.has_stamps)
+		open_sink(run);
 }
 
 void net_remove(const char *folder)
@@ -149,6 +172,8 @@ static bool take(uint64_t now)
 		close_all(files);
 	else if (message->kind == MESSAGE_CONNECT)
 		take_connection(message, files[0], files[1], now);
+	else if (message->kind == MESSAGE_STRAY)
+		take_stray(message, files[0]);
 	else
 		take_datagram(message, parcel.bytes,
 			      (size_t)length - sizeof(*message) - message->control_length, files[0],

@@ -10,6 +10,8 @@
 #include "tkrun.h"
 #include "net/message.h"
 
+#include <linux/inet_diag.h>
+
 /* One direction of a link. */
 struct link {
 	struct link_options options;
@@ -63,6 +65,27 @@ bool flights_arrive(uint64_t now);
 void take_datagram(const struct message *message, const char *bytes, size_t length, int file,
 		   uint64_t now);
 void take_connection(const struct message *message, int file, int answer, uint64_t now);
+
+/* Looks who gets what a program has sent past the links, and warns if it is another node. Closes the
+ * file. */
+void take_stray(const struct message *message, int file);
+
+/* The sockets of a port, in the network's order, with a bit for each state of TCP that they may be
+ * in. Those of UDP have the same states. */
+struct port {
+	int protocol;
+	uint32_t states;
+	uint16_t port;
+};
+
+enum found { FOUND_NONE, FOUND_ONE, FOUND_UNKNOWN };
+
+/* Looks at a socket by what is wanted. */
+typedef bool socket_test(const struct inet_diag_msg *found, const void *wanted);
+
+/* Looks at all sockets of a port, those of IPv4 first. Returns whether one of them is wanted, if the
+ * kernel says which there are. */
+enum found sockets_find(const struct port *port, socket_test *is_wanted, const void *wanted);
 
 /* Return the name of a socket, and call bind or connect with a name. The socket may be one of IPv6,
  * with an address of IPv4. */

@@ -72,22 +72,37 @@ static bool has_no_address(int file)
 					    : IN6_IS_ADDR_UNSPECIFIED(&own.six.sin6_addr);
 }
 
-/* Adds to the control data that the node's address sends, unless the program says otherwise. */
-static size_t put_source(const struct datagram *datagram, char *control)
+/* Appends a part to control data. Returns its length. */
+static size_t put_part(char *control, size_t length, const struct cmsghdr *head,
+		       const void *value)
+{
+	size_t at = CMSG_ALIGN(length);
+
+	memset(control + length, 0, at - length);
+	memcpy(control + at, head, sizeof(*head));
+	memcpy(CMSG_DATA((struct cmsghdr *)(control + at)), value, head->cmsg_len - CMSG_LEN(0));
+	return at + CMSG_ALIGN(head->cmsg_len);
+}
+
+/* Stores the control data. The node's address sends, unless the program says otherwise. The library
+ * has let the kernel stamp the datagram when the program sent it, so it isn't stamped again. */
+static size_t put_control(const struct datagram *datagram, char *control)
 {
 	const struct message *message = &datagram->message;
 	struct in_pktinfo info = {
 		.ipi_spec_dst.s_addr = node_machine(message->node)->shared->peers.own,
 	};
-	struct cmsghdr head = { CMSG_LEN(sizeof(info)), IPPROTO_IP, IP_PKTINFO };
+	const uint32_t no_stamps = 0;
+	struct cmsghdr source = { CMSG_LEN(sizeof(info)), IPPROTO_IP, IP_PKTINFO };
+	struct cmsghdr stamps = { CMSG_LEN(sizeof(no_stamps)), SOL_SOCKET, SO_TIMESTAMPING_OLD };
 	size_t length = message->control_length;
 
 	memcpy(control, datagram->bytes, length);
-	if (length || !has_no_address(datagram->sender->file))
-		return length;
-	memcpy(control, &head, sizeof(head));
-	memcpy(CMSG_DATA((struct cmsghdr *)control), &info, sizeof(info));
-	return CMSG_SPACE(sizeof(info));
+	if (!length && has_no_address(datagram->sender->file))
+		length = put_part(control, 0, &source, &info);
+	if (node_machine(message->node)->shared->has_stamps)
+		length = put_part(control, length, &stamps, &no_stamps);
+	return length;
 }
 
 /* An earlier datagram may have met an error, which the kernel then returns once. */
@@ -95,7 +110,8 @@ static void arrive(struct flight *flight, uint64_t now)
 {
 	struct datagram *datagram = (struct datagram *)flight;
 	struct message *message = &datagram->message;
-	_Alignas(struct cmsghdr) char control[CONTROL_MOST + CMSG_SPACE(sizeof(struct in_pktinfo))];
+	_Alignas(struct cmsghdr) char control[CONTROL_MOST + CMSG_SPACE(sizeof(struct in_pktinfo)) +
+					      CMSG_SPACE(sizeof(uint32_t))];
 	struct iovec text = { datagram->bytes + message->control_length, datagram->length };
 	struct msghdr out = { .msg_name = message->to_length ? &message->to : NULL,
 			      .msg_namelen = message->to_length,
@@ -105,7 +121,7 @@ static void arrive(struct flight *flight, uint64_t now)
 	int flags = MSG_NOSIGNAL | MSG_DONTWAIT;
 
 	(void)now;
-	out.msg_controllen = put_source(datagram, control);
+	out.msg_controllen = put_control(datagram, control);
 	if (sendmsg(datagram->sender->file, &out, flags) < 0 && errno != EAGAIN)
 		sendmsg(datagram->sender->file, &out, flags);
 	let_sender_go(datagram->sender);

@@ -23,6 +23,7 @@ void links_open(struct run *run)
 		link->place = i;
 		peers = &run->nodes[link->options.from].machine.shared->peers;
 		peers->own = options->nodes[link->options.from - 1].address;
+		peers->binds_own = options->nodes[link->options.from - 1].binds_own;
 		peers->of[link->options.to - 1] = options->nodes[link->options.to - 1].address;
 		peers->count++;
 	}

@@ -4,19 +4,13 @@
 #include "net.h"
 
 #include <errno.h>
-#include <linux/inet_diag.h>
-#include <linux/netlink.h>
-#include <linux/sock_diag.h>
 #include <netinet/tcp.h>
 #include <poll.h>
 #include <stdlib.h>
 #include <string.h>
 #include <unistd.h>
 
-enum {
-	RECEIVE_BYTES = 131072,
-	ANSWER_BYTES = 65536,
-};
+enum { RECEIVE_BYTES = 131072 };
 
 struct opening {
 	struct sockaddr_in server;
@@ -48,8 +42,9 @@ int net_state_of(int file, int millis)
 
 /* Returns whether a socket that listens has a name: its address, or that of all. One of IPv6 may
  * have an address of IPv4. */
-static bool has_name(const struct inet_diag_msg *found, const struct sockaddr_in *name)
+static bool has_name(const struct inet_diag_msg *found, const void *wanted)
 {
+	const struct sockaddr_in *name = wanted;
 	const uint32_t *words = found->id.idiag_src;
 	bool is_six = found->idiag_family == AF_INET6;
 	uint32_t own = words[is_six ? 3 : 0];
@@ -59,52 +54,12 @@ static bool has_name(const struct inet_diag_msg *found, const struct sockaddr_in
 	       (!is_six || (!words[0] && !words[1] && words[2] == (own ? htonl(0xffff) : 0)));
 }
 
-/* Asks the kernel for all sockets of a family that listen at a port. */
-static bool ask(int file, const struct sockaddr_in *name, uint8_t family)
-{
-	struct {
-		struct nlmsghdr head;
-		struct inet_diag_req_v2 request;
-	} ask = { .head = { .nlmsg_len = sizeof(ask),
-			    .nlmsg_type = SOCK_DIAG_BY_FAMILY,
-			    .nlmsg_flags = NLM_F_REQUEST | NLM_F_DUMP },
-		  .request = { .sdiag_family = family,
-			       .sdiag_protocol = IPPROTO_TCP,
-			       .idiag_states = 1 << TCP_LISTEN,
-			       .id.idiag_sport = name->sin_port } };
-
-	return send(file, &ask, sizeof(ask), 0) == sizeof(ask);
-}
-
-/* Reads the kernel's answer. Returns whether it contains the name. */
-static bool find_name(int file, const struct sockaddr_in *name)
-{
-	static _Alignas(struct nlmsghdr) char bytes[ANSWER_BYTES];
-	bool is_found = false;
-	ssize_t length;
-
-	while ((length = recv(file, bytes, sizeof(bytes), 0)) > 0) {
-		size_t left = (size_t)length;
-		struct nlmsghdr *head = (struct nlmsghdr *)bytes;
-
-		for (; NLMSG_OK(head, left); head = NLMSG_NEXT(head, left)) {
-			if (head->nlmsg_type != SOCK_DIAG_BY_FAMILY)
-				return is_found; /* the end, or an error */
-			is_found |= has_name(NLMSG_DATA(head), name);
-		}
-	}
-	return is_found;
-}
-
 bool opening_is_heard(const struct sockaddr_in *server)
 {
-	int file = socket(AF_NETLINK, SOCK_DGRAM | SOCK_CLOEXEC, NETLINK_SOCK_DIAG);
-	bool is_found = file < 0 || (ask(file, server, AF_INET) && find_name(file, server)) ||
-			(ask(file, server, AF_INET6) && find_name(file, server));
+	const struct port port = { .protocol = IPPROTO_TCP, .states = 1 << TCP_LISTEN,
+				   .port = server->sin_port };
 
-	if (file >= 0)
-		close(file);
-	return is_found;
+	return sockets_find(&port, has_name, server) != FOUND_NONE;
 }
 
 /* tkrun's end has the client's port, or another one if the client's doesn't share it. */

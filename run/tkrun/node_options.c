@@ -14,7 +14,8 @@
 static const char *const RESERVED[] = { "rows", "nodes", "readers", TRUE_NAME, "partition", "heal" };
 
 static const char *const OPTIONS[] = { "error-ppm",  "start", "ahead", "uptime", "script", "hz",
-				       "bits",	     "maxsec", "wander-ppm", "seed", "address" };
+				       "bits",	     "maxsec", "wander-ppm", "seed", "address",
+				       "bind", "step-after-reads" };
 
 bool is_node_name(const char *text)
 {
@@ -88,6 +89,7 @@ static struct options common_options(const struct options *all)
 	node.node_count = node.link_count = 0;
 	node.has_start = node.has_lead = node.has_ahead = node.has_uptime = false;
 	node.ahead = 0;
+	node.read_step_count = 0;
 	node.script = NULL;
 	return node;
 }
@@ -108,6 +110,8 @@ static void parse_node(const struct options *all, const char *words, struct opti
 		parse_word(node, word);
 	if (all->record)
 		node->record = copy_of(all->record, node->name);
+	if (node->binds_own && !node->address)
+		fail(STATUS_WRONG, "bind=own needs an address");
 	if (node->wander_ppm != 0 && all->counter != COUNTER_SLEEPS)
 		fail(STATUS_WRONG, "wander-ppm needs --counter sleeps");
 	compare_options(node);

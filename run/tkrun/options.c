@@ -148,6 +148,10 @@ static bool parse_nodes_option(struct options *o, const char *name, const char *
 		add_link(o, value);
 	else if (!strcmp(name, "address"))
 		o->address = parse_address(value);
+	else if (!strcmp(name, "bind") && !strcmp(value, "own"))
+		o->binds_own = true;
+	else if (!strcmp(name, "bind"))
+		fail(STATUS_WRONG, "bind '%s' isn't own", value);
 	else
 		return false;
 	return true;
@@ -185,6 +189,8 @@ void parse_option(struct options *o, const char *name, const char *value)
 		o->log = value;
 	else if (!strcmp(name, "read-cost"))
 		o->read_cost = whole(name, value, 0, NANOS);
+	else if (!strcmp(name, "step-after-reads"))
+		parse_read_step(o, value);
 	else if (!parse_nodes_option(o, name, value) && !parse_node_option(o, name, value))
 		set_flag(o, name);
 	o->has_ahead |= !strcmp(name, "ahead");
@@ -250,6 +256,7 @@ void parse_options(int count, char **words, struct options *options)
 		{ "version", 0, 0, 'v' }, { "reads", 1, 0, 0 },
 		{ "readers", 0, 0, 0 },
 		{ "read-cost", 1, 0, 0 },
+		{ "step-after-reads", 1, 0, 0 },
 		{ "link", 1, 0, 0 },
 		{ 0, 0, 0, 0 },
 	};

@@ -55,6 +55,8 @@ struct options {
 	uint64_t every;
 	uint64_t reads_most; /* in a record */
 	uint64_t read_cost; /* ns by which a read moves a counter of sleeps */
+	struct read_step read_steps[READ_STEPS_MOST]; /* in their order */
+	uint32_t read_step_count;
 	bool limits_reads;   /* --reads is there */
 	bool has_readers;    /* the record says who made each read */
 	bool is_checked, denies_set, has_stamps, is_quiet, is_static, is_lax;
@@ -66,6 +68,7 @@ struct options {
 	size_t node_count;
 	struct options *nodes;
 	uint32_t address; /* of a node, of IPv4 in the network's order, or 0 */
+	bool binds_own;   /* bind=own */
 	const char **link_words;
 	size_t link_count;
 	struct link_options *links; /* one for each direction */
@@ -88,6 +91,9 @@ const char *parse_nsec(const char *text, uint32_t *nsec);
 /* Parse the value of --start: a time, and the same or a lead, with " xSPEED" or without. */
 void parse_start(struct options *options, const char *text);
 void parse_start_words(struct options *options, const char *text);
+
+/* Adds a step that comes after a number of reads. */
+void parse_read_step(struct options *options, const char *text);
 
 /* Parses the value of an option with this name. */
 void parse_option(struct options *options, const char *name, const char *value);

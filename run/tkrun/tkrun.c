@@ -172,13 +172,17 @@ static void hold_standard_files(void)
 		close(file);
 }
 
-/* Lets the library and the image look at each read if it costs something, or else at those that are
- * recorded. */
-static void look_at_reads(const struct machine *machine)
+/* Lets the library and the image look at each read if it costs something or is counted, or else at
+ * those that are recorded. */
+static void look_at_reads(const struct node *node)
 {
-	struct rows *rows = &machine->control->rows;
+	const struct options *options = &node->options;
+	struct control *control = node->machine.control;
+	bool looks_at_all = node->machine.shared->read_cost || options->read_step_count;
 
-	rows->looks_every = machine->shared->read_cost ? 1 : rows->every;
+	control->read_steps.count = options->read_step_count;
+	memcpy(control->read_steps.of, options->read_steps, sizeof(options->read_steps));
+	control->rows.looks_every = looks_at_all ? 1 : control->rows.every;
 }
 
 static void remove_all(void)
@@ -200,7 +204,7 @@ static void open_all(struct run *run)
 	if (options->record || options->is_checked)
 		start_records(run);
 	for (size_t i = 0; i < run->count; i++) {
-		look_at_reads(&run->nodes[i].machine);
+		look_at_reads(&run->nodes[i]);
 		run_first_orders(&run->nodes[i]);
 		moves_note(&run->nodes[i].machine);
 	}

@@ -21,6 +21,8 @@ static const char USAGE[] =
 	"                            [+-]N[s|m|h|d|y] from the host's; ' xN' sets --speed too\n"
 	"  --ahead SEC               or its lead over the host's REALTIME\n"
 	"  --uptime SEC[.NSEC]       MONOTONIC and BOOTTIME at the start (0)\n"
+	"  --step-after-reads N:[+-]SEC[.NSEC]\n"
+	"                            steps REALTIME after N reads; may be there again\n"
 	"  --script FILE             opens and commands the clocks by a tkcore script\n"
 	"  --record FILE             records all commands, and reads\n"
 	"  --every N                 records each Nth read of a thread (1)\n"

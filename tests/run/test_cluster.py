@@ -1,4 +1,4 @@
-"""The examples of clusters: a day of chronyd, and a lease that two clients hold at once."""
+"""The examples of clusters: a day of chronyd, minutes of ptp4l, and a lease that two clients hold at once."""
 import os
 import pathlib
 import shutil
@@ -8,6 +8,7 @@ import unittest
 from runs import TKRUN, needs_root
 
 EXAMPLES = pathlib.Path(__file__).resolve().parents[2] / "examples/cluster"
+PTP4L = shutil.which("ptp4l", path="/usr/sbin:/sbin:/usr/bin:/bin")
 CHRONYD = shutil.which("chronyd", path="/usr/sbin:/sbin:/usr/bin:/bin")
 
 
@@ -38,6 +39,25 @@ class Chronyd(unittest.TestCase):
             with self.subTest(words):
                 self.assertEqual((2, [], ["usage: examples/cluster/chronyd [HOURS]"]),
                                  run("chronyd", *words))
+
+
+class Ptp4l(unittest.TestCase):
+    @needs_root("runs a ptp4l")
+    @unittest.skipUnless(PTP4L, "ptp4l isn't installed")
+    def test_a_client_follows_the_server(self):
+        status, lines, said = run("ptp4l", "2")
+        self.assertEqual((0, []), (status, said))
+        self.assertEqual(["minute", "client"], lines[0].split())
+        rows = [[int(word) for word in line.split()] for line in lines[1:]]
+        self.assertEqual([0, 500000000], rows[0])
+        self.assertEqual([1, 2], [minute for minute, _ in rows[1:]])
+        self.assertLess(max(abs(ahead) for _, ahead in rows[1:]), 10000)
+
+    def test_wrong_words(self):
+        for words in (["x"], [""], ["-1"]):
+            with self.subTest(words):
+                self.assertEqual((2, [], ["usage: examples/cluster/ptp4l [MINUTES]"]),
+                                 run("ptp4l", *words))
 
 
 class Lease(unittest.TestCase):

@@ -106,9 +106,9 @@ class Options(LinkTest):
             files = [(socket.SOL_SOCKET, socket.SCM_RIGHTS, array.array("i", [own] * n))
                      for n in (1, 2)]
             for node in (0, 1, 3, 4, 2**32 - 1):
-                for kind in (0, 1, 2):
+                for kind, family in ((0, 0), (1, 0), (2, 0), (2, 2), (2, 10), (3, 0)):
                     for lengths in ((0, 0), (16, 0), (29, 0), (16, 513), (16, 10**9), (0, 30)):
-                        head = struct.pack("5I28x", kind, node, 0x0300007f, *lengths)
+                        head = struct.pack("5IH26x", kind, node, 0x0300007f, *lengths, family)
                         for part in ([], files[:1], files[1:]):
                             for size in (0, 10, 48, 60, 70000):
                                 s.sendmsg([(head + bytes(70000))[:size]], part, 0, name)

@@ -1,0 +1,60 @@
+/* SPDX-License-Identifier: MIT OR Apache-2.0 */
+/* net_diag.c - asks the kernel for the sockets of a port. */
+#define _GNU_SOURCE
+#include "net.h"
+
+#include <linux/netlink.h>
+#include <linux/sock_diag.h>
+#include <unistd.h>
+
+enum { ANSWER_BYTES = 65536 };
+
+/* Asks for the sockets of a family. */
+static bool ask(int file, const struct port *port, uint8_t family)
+{
+	struct {
+		struct nlmsghdr head;
+		struct inet_diag_req_v2 request;
+	} ask = { .head = { .nlmsg_len = sizeof(ask),
+			    .nlmsg_type = SOCK_DIAG_BY_FAMILY,
+			    .nlmsg_flags = NLM_F_REQUEST | NLM_F_DUMP },
+		  .request = { .sdiag_family = family,
+			       .sdiag_protocol = port->protocol,
+			       .idiag_states = port->states,
+			       .id.idiag_sport = port->port } };
+
+	return send(file, &ask, sizeof(ask), 0) == sizeof(ask);
+}
+
+/* Reads the kernel's answer. Returns whether it contains a socket that is wanted. */
+static bool find(int file, socket_test *is_wanted, const void *wanted)
+{
+	static _Alignas(struct nlmsghdr) char bytes[ANSWER_BYTES];
+	bool is_found = false;
+	ssize_t length;
+
+	while ((length = recv(file, bytes, sizeof(bytes), 0)) > 0) {
+		size_t left = (size_t)length;
+		struct nlmsghdr *head = (struct nlmsghdr *)bytes;
+
+		for (; NLMSG_OK(head, left); head = NLMSG_NEXT(head, left)) {
+			if (head->nlmsg_type != SOCK_DIAG_BY_FAMILY)
+				return is_found; /* the end, or an error */
+			is_found |= is_wanted(NLMSG_DATA(head), wanted);
+		}
+	}
+	return is_found;
+}
+
+enum found sockets_find(const struct port *port, socket_test *is_wanted, const void *wanted)
+{
+	int file = socket(AF_NETLINK, SOCK_DGRAM | SOCK_CLOEXEC, NETLINK_SOCK_DIAG);
+	bool is_found;
+
+	if (file < 0)
+		return FOUND_UNKNOWN;
+	is_found = (ask(file, port, AF_INET) && find(file, is_wanted, wanted)) ||
+		   (ask(file, port, AF_INET6) && find(file, is_wanted, wanted));
+	close(file);
+	return is_found ? FOUND_ONE : FOUND_NONE;
+}
