@@ -7,6 +7,7 @@
  * loaded, and brings the clocks forward until no process is left.
  */
 #define _GNU_SOURCE
+#include "grant.h"
 #include "net.h"
 #include "processes/coverage.h"
 #include "processes/uncovered.h"
@@ -184,6 +185,7 @@ static void look_at_reads(const struct machine *machine)
 static void remove_all(void)
 {
 	net_remove(the_run.nodes->folder);
+	turns_remove(the_run.nodes->folder);
 	for (size_t i = the_run.count; i-- > 0;)
 		remove_files(&the_run.nodes[i]);
 }
@@ -207,6 +209,7 @@ static void open_all(struct run *run)
 	if (run->count > 1)
 		control_open(run);
 	net_open(run);
+	turns_open(run);
 	act_all_due(run);
 }
 
@@ -234,7 +237,7 @@ int main(int count, char **words)
 	if (options->is_lax)
 		uncovered_allow();
 	find_host_clock(run);
-	preload_library(options->link_count);
+	preload_library(options->link_count, options->has_seed);
 	if (options->is_checked)
 		find_tkcore();
 	if (options->log)
