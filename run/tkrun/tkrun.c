@@ -9,9 +9,12 @@
 #define _GNU_SOURCE
 #include "grant.h"
 #include "net.h"
+#include "seeds.h"
+#include "space.h"
 #include "processes/coverage.h"
 #include "processes/uncovered.h"
 #include "record/merge.h"
+#include "static/random.h"
 
 #include <errno.h>
 #include <fcntl.h>
@@ -222,6 +225,15 @@ static void print_end(const struct run *run)
 		print_log(&run->nodes[i]);
 }
 
+/* Lets numbers, addresses and random bytes of processes be the same in each run. */
+static void start_seed(const struct options *options)
+{
+	bool has_numbers = space_enter();
+
+	space_fix_addresses();
+	random_start(seed_for(options->seed, SEED_BYTES), has_numbers);
+}
+
 int main(int count, char **words)
 {
 	struct run *run = &the_run;
@@ -242,6 +254,8 @@ int main(int count, char **words)
 		find_tkcore();
 	if (options->log)
 		start_log(options);
+	if (options->has_seed)
+		start_seed(options);
 	signals_block(&signals);
 	atexit(remove_all);
 	open_all(run);
