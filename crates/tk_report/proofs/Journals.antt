@@ -1,22 +1,30 @@
--- The journal after rows, row by row.
-use Rattle.std.proofs.Common.{◌≡◌, List, refl, ap}
-use Rattle.std.specs.Prelude.{Result, Ok, Err}
+-- The journal after rows.
+use Rattle.std.proofs.Common.{◌≡◌, ◌∙◌, List, [], ◌∷◌, sym, ap}
+use Rattle.std.specs.Prelude.{Result, Ok}
 use Rattle.tk_clock.specs.Journal.{Journal}
-use Rattle.tk_clock.specs.Refusal.{first_refusal}
+use Rattle.tk_keeper.specs.Keeper.{Keeper}
 use Rattle.tk_script.specs.declared.row.Row.{Row}
 use Rattle.tk_script.specs.declared.script_error.ScriptError.{ScriptError}
 use Rattle.tk_script.specs.declared.script_error.ScriptError.TheVariants as errors
-use Rattle.tk_script.specs.Coming.{row_and}
 use Rattle.tk_script.specs.Grammar.{Fails}
-use Rattle.tk_report.specs.Report.{after}
-use Rattle.tk_report.specs.Trace.{journal_after}
+use Rattle.tk_report.specs.Journaling.{IsJournaled}
+use Rattle.tk_report.specs.Rows.{HasDone, IsAfterRows}
+use Rattle.tk_report.specs.Trace.{after_all, journal_after}
+use Rattle.tk_report.proofs.Rows.{Rows}
 
--- one row is applied, and the rows after it remain
-pub journal_after-row : (journal : Journal) (row : Row) (later : Result (List Row) ScriptError) →
-    journal_after journal (row_and row later)
-    ≡ journal_after (after first_refusal journal row) later
-journal_after-row journal row (Ok rows) = refl
-journal_after-row journal row (Err fault) = refl
+after-all : (rows : List Row) (before next : Keeper) → IsAfterRows IsJournaled before rows next →
+    next.journal ≡ after_all before.journal rows
+after-all [] before next same = ap (λ (k : Keeper). k.journal) same
+after-all (row ∷ rows) before next (middle, step, rest) =
+    after-all rows middle next rest ∙ ap (λ (j : Journal). after_all j rows) step
+
+-- the journal after all rows
+pub journal-of : (all : Rows) (before next : Keeper) → HasDone IsJournaled before all next →
+    journal_after before.journal all ≡ Ok next.journal
+journal-of all before next (rows, known, run) =
+    ap (journal_after before.journal) known
+    ∙ ap (λ (j : Journal). let told : Result Journal ScriptError = Ok j in told)
+    (sym (after-all rows before next run))
 
 -- a fault of the rows is the fault of the journal
 pub Fails-journal_after : (journal : Journal) (rows : Result (List Row) ScriptError)

@@ -1,7 +1,10 @@
 pub mod KnownBytes
 pub mod Times
 pub mod Looks
+pub mod Rows
+pub mod Noted
 pub mod Lines
+pub mod PlainLines
 pub mod Journals
 pub mod Traces
 mod Worked

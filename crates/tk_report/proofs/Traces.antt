@@ -16,7 +16,7 @@ use Rattle.tk_report.specs.Fault.{fault_of_stamps}
 use Rattle.tk_report.specs.Reading.{IsReadToEnd}
 use Rattle.tk_report.specs.Replay.{IsStopped}
 use Rattle.tk_report.specs.Trace.{AreReadToEnd, IsItemsFault, IsItemsText, IsJournalOf, IsTrace, IsTraceFault}
-use Rattle.tk_report.proofs.Lines.{Rows}
+use Rattle.tk_report.proofs.Rows.{Rows}
 
 -- a script with a journal has no fault
 pub whole-journal : (read : Result Parse ScriptError) (journal : Journal) →

@@ -1,20 +1,16 @@
 //! Makes the clocks after the commands of a script.
-ghost use Rattle.std.specs.Prelude.{◌≡◌, ◌<◌, IfErr, MatchResult, OnOk};
-ghost use Rattle.tk_clock.specs.Journal.{accepted_count};
-ghost use Rattle.tk_clock.specs.Limits.{counted_most};
-ghost use Rattle.tk_clock.specs.Refusal.{first_refusal};
+ghost use Rattle.std.specs.Prelude.{MatchResult};
 ghost use Rattle.tk_script.specs.Coming.{IsReady, coming, opened_with};
 ghost use Rattle.tk_script.specs.Grammar.{Fails, Gives, parse_of};
 ghost use Rattle.tk_script.specs.Start.{IsOpenable, journal_at};
 ghost use Rattle.tk_report.specs.Beginnings.{start_of};
-ghost use Rattle.tk_report.specs.Report.{after};
 ghost use Rattle.tk_report.specs.Trace.{IsJournalOf, journal_after};
 
 use crate::beginning::{Beginning, begin};
+use crate::obeying::{Obeys, obey_all, unless_memory};
 use crate::plain_start::PlainStart;
 use crate::steered_journaling::steered_after;
 use std::alloc::{Allocator, Global};
-use tk_clock::Refusal;
 use tk_keeper::Timekeeper;
 use tk_script::{Row, RowReader, ScriptError, Start};
 
@@ -79,33 +75,36 @@ fn plain_after<A: Allocator + Copy>(
         (journal_after (journal_at (start_of start)) (coming rows.old)) }
 {
     let mut keeper = start.keeper(alloc);
-    'rows: while let Some(row) = rows.next_row()? {
-        obey(&mut keeper, row)?;
-    }
+    obey_all(&mut keeper, rows)?;
     Ok(keeper)
 }
 
-/// Applies a record's command, or changes the counter. A refused command, a read and a request
-/// change nothing.
-fn obey<A: Allocator + Copy>(keeper: &mut Timekeeper<A>, row: Row) -> Result<(), ScriptError>
-    requires { accepted_count keeper.old.journal < counted_most }
-    ensures after { OnOk result
-        (keeper.new.journal ≡ after first_refusal keeper.old.journal row) }
-    ensures err { IfErr result (λ error. error ≡ ScriptError.Memory) }
-{
-    match row {
-        Row::Act { reading, cmd } => match keeper.apply(CALLER, reading, cmd) {
-            Err(Refusal::Memory) => Err(ScriptError::Memory),
-            _ => Ok(()),
-        },
-        Row::Look { .. } | Row::Ask { .. } => Ok(()),
-        Row::Change {
-            reading,
-            desc,
-            first,
-        } => {
-            let _ = keeper.change_counter(reading, desc, first);
-            Ok(())
+/// Without a discipline, a command is applied and the counter is changed. A refused command, a read
+/// and a request change nothing.
+impl<A: Allocator + Copy> Obeys for Timekeeper<A> {
+    ghost use Rattle.tk_report.specs.Journaling.{HasRoom, IsJournaled, leaves_room};
+
+    ghost does = { IsJournaled };
+
+    ghost has_room = { HasRoom };
+
+    ghost leaves = { leaves_room };
+
+    fn obey(&mut self, row: Row) -> Result<(), ScriptError> {
+        match row {
+            Row::Act { reading, cmd } => {
+                let _number = unless_memory(self.apply(CALLER, reading, cmd))?;
+                Ok(())
+            }
+            Row::Look { .. } | Row::Ask { .. } => Ok(()),
+            Row::Change {
+                reading,
+                desc,
+                first,
+            } => {
+                let _ = self.change_counter(reading, desc, first);
+                Ok(())
+            }
         }
     }
 }

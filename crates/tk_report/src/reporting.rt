@@ -13,17 +13,19 @@ ghost use Rattle.tk_script.specs.Start.{IsOpenable};
 ghost use Rattle.tk_report.specs.Beginnings.{start_of};
 ghost use Rattle.tk_report.specs.CountedClocks.{ForKept, IsKept, IsReplied};
 ghost use Rattle.tk_report.specs.Folding.{rule_of};
-ghost use Rattle.tk_report.specs.Report.{IsLine, IsLookLine, IsPlainReportOfRows, after, difference, differences_of, differs_text, event, missed, missed_at, missed_if, reply_by, reply_line};
+ghost use Rattle.tk_report.specs.Report.{IsLine, IsLookLine, IsPlainReportOfRows, after, differences_of, event, missed, missed_at, missed_if, reply_by, reply_line};
 ghost use Rattle.tk_report.specs.Reports.{IsReport, IsReportBy, IsReportUnlimited};
 
 use crate::checked_report::CheckedReport;
 use crate::counted_clocks::CountedClocks;
+use crate::obeying::{Obeys, obey_all};
 use crate::plain_start::PlainStart;
+use crate::report_lines::Lines;
 use crate::row_reporting::report_rows;
 use std::alloc::{Allocator, Global};
 use tk_clock::{ClockId, Command, Refusal, Snapshot, Timespec};
 use tk_counter::NANOS_PER_SECOND;
-use tk_script::{Calendar, Row, RowReader, ScriptError, line_differs, line_no, line_ok, line_open};
+use tk_script::{Calendar, Row, RowReader, ScriptError, line_no, line_ok};
 
 /// Makes the report of a script's bytes: a line for the opening, and one for each later record.
 ///
@@ -92,19 +94,35 @@ pub(crate) fn report_plain<A: Allocator + Copy>(
         × (report.differences ≡ differences_of rule (opened_with script (coming rows.old))))
         (λ error. Fails error (coming rows.old)) }
 {
-    let mut clocks = CountedClocks::begin(start, keep);
-    let mut calendar = Calendar::new(alloc);
-    let mut text = Vec::new(alloc);
-    let (mut number, mut differences) = (1u64, 0u64);
-    let desc = clocks.snapshot().desc();
-    line_open(&mut text, &desc)?;
-    'rows: while let Some(row) = rows.next_row()? {
-        number += 1;
-        let missed = add_line(&mut text, &mut calendar, &mut clocks, row)?;
-        let more = add_difference(&mut text, number, missed)?;
-        differences += more;
+    let clocks = CountedClocks::begin(start, keep);
+    let lines = Lines::open(alloc, &clocks.snapshot().desc())?;
+    let mut report = PlainReport { clocks, lines };
+    obey_all(&mut report, rows)?;
+    Ok(report.lines.finish())
+}
+
+/// Contains a report so far, and its clocks, which no discipline steers.
+#[derive(Drop)]
+struct PlainReport<A: Allocator> {
+    clocks: CountedClocks,
+    lines: Lines<A>,
+}
+
+impl<A: Allocator + Copy> Obeys for PlainReport<A> {
+    ghost use Rattle.tk_report.specs.PlainSteps.{HasRoomFor, IsPlainStep, leaves_room};
+
+    ghost does = { IsPlainStep };
+
+    ghost has_room = { HasRoomFor };
+
+    ghost leaves = { leaves_room };
+
+    #[inline(always)]
+    fn obey(&mut self, row: Row) -> Result<(), ScriptError> {
+        let lines = &mut self.lines;
+        let missed = add_line(&mut lines.text, &mut lines.calendar, &mut self.clocks, row)?;
+        self.lines.note(missed)
     }
-    Ok(CheckedReport { text, differences })
 }
 
 /// Applies a record's command, reads its clock, changes the counter, or refuses its request, and
@@ -149,27 +167,6 @@ fn add_line<A: Allocator + Copy>(
             line_no(text, Refusal::Invalid)?;
             Ok(None)
         }
-    }
-}
-
-/// Appends the line of an expected value that the record `row` does not give, if there is one.
-/// Returns the number of lines.
-#[inline(always)]
-pub(crate) fn add_difference<A: Allocator>(
-    text: &mut Vec<u8, A>,
-    row: u64,
-    missed: Option<u64>,
-) -> Result<u64, ScriptError>
-    ensures text { OnOk result (text.new.items ≡ text.old.items ++ differs_text row missed) }
-    ensures count { IfOk result (λ count. count ≡ difference missed) }
-    ensures err { IfErr result (λ error. error ≡ ScriptError.Memory) }
-{
-    match missed {
-        Some(value) => {
-            line_differs(text, row, value)?;
-            Ok(1)
-        }
-        None => Ok(0),
     }
 }
 

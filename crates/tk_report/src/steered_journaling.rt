@@ -1,13 +1,13 @@
 //! Makes the clocks after the commands of a script whose clocks a discipline steers.
-ghost use Rattle.std.specs.Prelude.{◌≡◌, IfErr, MatchResult, OnOk};
-ghost use Rattle.tk_report.specs.SteeredReport.{IsSteeredAfter, IsSteeredJournalOfRows};
+ghost use Rattle.std.specs.Prelude.{MatchResult};
+ghost use Rattle.tk_report.specs.SteeredReport.{IsSteeredJournalOfRows};
 ghost use Rattle.tk_script.specs.Coming.{IsReady, coming};
 ghost use Rattle.tk_script.specs.Grammar.{Fails};
 
 use crate::journaling::CALLER;
+use crate::obeying::{Obeys, obey_all, unless_memory};
 use crate::steered_reporting::begin_seconds;
 use std::alloc::Allocator;
-use tk_clock::Refusal;
 use tk_keeper::Timekeeper;
 use tk_script::{Row, RowReader, ScriptError};
 use tk_steered::Steered;
@@ -24,27 +24,33 @@ pub(crate) fn steered_after<A: Allocator + Copy>(
         (λ error. Fails error (coming rows.old)) }
 {
     let mut clocks = first;
-    'rows: while let Some(row) = rows.next_row()? {
-        obey(&mut clocks, row)?;
-    }
+    obey_all(&mut clocks, rows)?;
     Ok(clocks.into_keeper())
 }
 
-/// Carries out a record. A read lets the seconds up to its reading begin.
-fn obey<A: Allocator + Copy>(clocks: &mut Steered<A>, row: Row) -> Result<(), ScriptError>
-    ensures after { OnOk result (IsSteeredAfter clocks.old row clocks.new) }
-    ensures err { IfErr result (λ error. error ≡ ScriptError.Memory) }
-{
-    match row {
-        Row::Act { reading, cmd } => match clocks.apply(CALLER, reading, cmd) {
-            Err(Refusal::Memory) => Err(ScriptError::Memory),
-            _ => Ok(()),
-        },
-        Row::Ask { reading, request } => match clocks.adjtimex(CALLER, reading, &request) {
-            Err(Refusal::Memory) => Err(ScriptError::Memory),
-            _ => Ok(()),
-        },
-        Row::Look { reading, .. } => begin_seconds(clocks, reading),
-        Row::Change { .. } => Ok(()),
+/// With a discipline, a command is applied, a request is answered, and a read lets the seconds up to
+/// its reading begin. A change of counter is refused.
+impl<A: Allocator + Copy> Obeys for Steered<A> {
+    ghost use Rattle.tk_report.specs.SteeredReport.{IsSteeredAfter};
+
+    ghost does = { IsSteeredAfter };
+
+    ghost has_room = { λ _ _. Unit {0} };
+
+    ghost leaves = { λ _ _ _ _ _ _. tt };
+
+    fn obey(&mut self, row: Row) -> Result<(), ScriptError> {
+        match row {
+            Row::Act { reading, cmd } => {
+                let _number = unless_memory(self.apply(CALLER, reading, cmd))?;
+                Ok(())
+            }
+            Row::Ask { reading, request } => {
+                let _reply = unless_memory(self.adjtimex(CALLER, reading, &request))?;
+                Ok(())
+            }
+            Row::Look { reading, .. } => begin_seconds(self, reading),
+            Row::Change { .. } => Ok(()),
+        }
     }
 }

@@ -8,12 +8,14 @@ ghost use Rattle.tk_script.specs.Grammar.{Fails};
 
 use crate::checked_report::CheckedReport;
 use crate::journaling::CALLER;
-use crate::reporting::{add_difference, add_look};
+use crate::obeying::{Obeys, obey_all, unless_memory};
+use crate::report_lines::Lines;
+use crate::reporting::add_look;
 use std::alloc::Allocator;
 use tk_clock::{ClockId, Command, Refusal};
 use tk_keeper::Timekeeper;
 use tk_ntp::Timex;
-use tk_script::{Calendar, Row, RowReader, ScriptError, line_adj, line_no, line_ok, line_open};
+use tk_script::{Calendar, Row, RowReader, ScriptError, line_adj, line_no, line_ok};
 use tk_steered::Steered;
 
 /// Makes the report of a script that begins with the steered clocks `first`, from the remaining rows
@@ -29,19 +31,36 @@ pub(crate) fn report_steered<A: Allocator + Copy>(
         report.differences)
         (λ error. Fails error (coming rows.old)) }
 {
-    let mut clocks = first;
-    let mut calendar = Calendar::new(alloc);
-    let mut text = Vec::new(alloc);
-    let (mut number, mut differences) = (1u64, 0u64);
-    let desc = clocks.keeper().snapshot().desc();
-    line_open(&mut text, &desc)?;
-    'rows: while let Some(row) = rows.next_row()? {
-        number += 1;
-        let missed = add_steered_line(&mut text, &mut calendar, &mut clocks, row)?;
-        let more = add_difference(&mut text, number, missed)?;
-        differences += more;
+    let lines = Lines::open(alloc, &first.keeper().snapshot().desc())?;
+    let mut report = SteeredReport {
+        clocks: first,
+        lines,
+    };
+    obey_all(&mut report, rows)?;
+    Ok(report.lines.finish())
+}
+
+/// Contains a report so far, and its clocks, which a discipline steers.
+#[derive(Drop)]
+struct SteeredReport<A: Allocator> {
+    clocks: Steered<A>,
+    lines: Lines<A>,
+}
+
+impl<A: Allocator + Copy> Obeys for SteeredReport<A> {
+    ghost use Rattle.tk_report.specs.SteeredSteps.{HasRoomFor, IsSteeredStep, leaves_room};
+
+    ghost does = { IsSteeredStep };
+
+    ghost has_room = { HasRoomFor };
+
+    ghost leaves = { leaves_room };
+
+    fn obey(&mut self, row: Row) -> Result<(), ScriptError> {
+        let lines = &mut self.lines;
+        let missed = add_steered_line(&mut lines.text, &mut lines.calendar, &mut self.clocks, row)?;
+        self.lines.note(missed)
     }
-    Ok(CheckedReport { text, differences })
 }
 
 /// Carries out a record, and appends its line. Returns the expected value that a read does not
@@ -149,8 +168,6 @@ pub(crate) fn begin_seconds<A: Allocator + Copy>(
     ensures begun { OnOk result (IsLookAt clocks.old reading clocks.new) }
     ensures err { IfErr result (λ error. error ≡ ScriptError.Memory) }
 {
-    match clocks.advance(CALLER, reading) {
-        Err(Refusal::Memory) => Err(ScriptError::Memory),
-        _ => Ok(()),
-    }
+    let _begun = unless_memory(clocks.advance(CALLER, reading))?;
+    Ok(())
 }
