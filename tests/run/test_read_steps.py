@@ -53,11 +53,13 @@ class ReadSteps(RunTest):
     def test_threads_that_come_to_several_steps_at_once(self):
         # each is made once
         for first in [5000, 20000, 40000]:
-            steps = [f"{first + i}:1" for i in range(16)]
+            steps = [word for i in range(16) for word in ("--step-after-reads", f"{first + i}:1")]
             text = (f"{COUNTED} threads 60000 0 & {COUNTED} threads 60000 0; wait; "
                     f"{COUNTED} time 1")
-            self.assertEqual(self.seconds(steps, "dash", "-c", text, options=["--reads", 1000]),
-                             [0, 0, START + 16])
+            run = self.start("--quiet", *STILL, "--start", START, *steps, "--reads", 1000,
+                             "--check", "--", "dash", "-c", text)
+            self.assertIn("the record has the first 1000 reads, ", run.stderr)
+            self.assertEqual((run.returncode, run.stdout.split()), (0, ["0", "0", f"{START + 16}"]))
 
     def test_each_node_has_its_own(self):
         options = ["--node", "a,step-after-reads=1:100,step-after-reads=3:100", "--node", "b"]
