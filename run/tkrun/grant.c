@@ -34,12 +34,13 @@ static uint64_t draw(void)
 	return splitmix_mix(state);
 }
 
-/* Returns how many calls a turn has: as often a few as many. */
+/* Returns how many calls a turn has: as often a few as many. The first one is that in which the
+ * thread was parked. */
 static uint32_t draw_calls(void)
 {
 	uint32_t bits = (uint32_t)(draw() % (CALLS_BITS + 1));
 
-	return 1 + (uint32_t)(draw() & ((1U << bits) - 1));
+	return 2 + (uint32_t)(draw() & ((1U << bits) - 1));
 }
 
 static bool name_file(char path[PATH_MAX], const char *folder)
@@ -149,6 +150,20 @@ static int compare(const void *one, const void *other)
 	return (a > b) - (a < b);
 }
 
+/* Sorts threads, and leaves out those that are there already: a handler may park while its thread is
+ * parked. Returns their number. */
+static size_t sort(int32_t threads[PARKED_MOST], size_t count)
+{
+	size_t kept = 0;
+
+	qsort(threads, count, sizeof(*threads), compare);
+	for (size_t i = 0; i < count; i++) {
+		if (!kept || threads[i] != threads[kept - 1])
+			threads[kept++] = threads[i];
+	}
+	return kept;
+}
+
 /* Lets a thread go on, with all its entries in a state. All are changed before it runs: it may park
  * again at once. */
 static void let_go(struct run *run, int32_t thread, uint32_t in)
@@ -180,7 +195,7 @@ static bool try_blocked(struct run *run, int32_t threads[PARKED_MOST])
 	if (host_nanos(CLOCK_MONOTONIC) - tried < RETRY_NANOS)
 		return false;
 	count = list_parked(run, PARKED_BLOCKED, threads);
-	qsort(threads, count, sizeof(*threads), compare);
+	count = sort(threads, count);
 	while (next < count && threads[next] <= last)
 		next++;
 	if (next == count) {
@@ -205,7 +220,7 @@ bool turns_grant(struct run *run)
 	count = list_parked(run, PARKED_READY, threads);
 	if (!count)
 		return try_blocked(run, threads);
-	qsort(threads, count, sizeof(*threads), compare);
+	count = sort(threads, count);
 	atomic_store(&table->calls_left, draw_calls());
 	let_go(run, threads[draw() % count], PARKED_READY);
 	return true;

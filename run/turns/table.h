@@ -6,7 +6,7 @@
  * 1. A thread of a program needs the turn at each call that libtkrun-turns.so answers. If it hasn't
  *    the turn then, it parks: it takes an entry and waits for its `state` to become PARKED_GRANTED.
  * 2. The thread that has the turn runs until it waits for something, or until it has made
- *    `calls_left` calls: then it parks too.
+ *    `calls_left` calls: then it parks, too. The call in which it parks is the first one.
  * 3. When all threads wait, tkrun takes the turn from its holder, and grants it to one of those that
  *    are PARKED_READY, by the seed. If none is, time moves.
  * 4. A thread that waits for a lock is PARKED_BLOCKED. Whoever unlocks it makes it PARKED_READY.

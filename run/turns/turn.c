@@ -70,8 +70,8 @@ static long wait_futex(struct parked *entry, uint32_t state, bool is_cancelled)
 	return result;
 }
 
-/* Waits for the turn. A thread whose handler has left such a wait by siglongjmp has lost its entry
- * when it comes back. Returns whether a handler has run while it was blocked. */
+/* Waits for the turn. If a handler has parked meanwhile, it has got the turn for this wait, too, and the
+ * entry is free or another thread's. Returns whether a handler has run while it was blocked. */
 static bool park(uint32_t state, uint64_t key, bool is_cancelled)
 {
 	int32_t thread = turn_thread();
@@ -82,7 +82,9 @@ static bool park(uint32_t state, uint64_t key, bool is_cancelled)
 	while (entry && turn_is_on()) {
 		now = atomic_load(&entry->state);
 		if (atomic_load(&entry->thread) != thread) {
-			entry = enter(thread, state, key);
+			entry = atomic_load(&turns_table->holder) == thread
+					? NULL
+					: enter(thread, state, key);
 			continue;
 		}
 		if (now == PARKED_GRANTED)
@@ -106,7 +108,14 @@ static bool is_borrowed(void)
 	return number_of(SYS_gettid) != turn_thread();
 }
 
-/* Counts a call of the thread that has the turn. Returns whether it is to park. */
+/* Returns whether it is one that would have to wait. */
+static bool is_borrowed_wait(void)
+{
+	return atomic_load(&turns_table->holder) != turn_thread() && is_borrowed();
+}
+
+/* Counts a call of the thread that has the turn, also if it has parked in it: a signal may come before
+ * it parks or after that, and its handler makes the same calls. Returns whether it is to park. */
 static bool is_last_call(void)
 {
 	uint32_t left = atomic_load_explicit(&turns_table->calls_left, memory_order_relaxed);
@@ -116,14 +125,17 @@ static bool is_last_call(void)
 	return left == 1;
 }
 
-void turn_need(const void *caller)
+bool turn_need(const void *caller)
 {
-	if (!turn_is_for(caller))
-		return;
-	if (atomic_load(&turns_table->holder) == turn_thread() && !is_last_call())
-		return;
-	if (!is_borrowed())
+	if (!turn_is_for(caller) || is_borrowed_wait())
+		return false;
+	if (atomic_load(&turns_table->holder) != turn_thread())
 		park(PARKED_READY, 0, false);
+	if (!is_last_call() || is_borrowed())
+		return true;
+	park(PARKED_READY, 0, false);
+	is_last_call();
+	return true;
 }
 
 void turn_pass(const void *caller)

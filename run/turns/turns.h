@@ -47,8 +47,9 @@ bool turn_is_for(const void *caller);
 bool turn_is_found(const void *caller);
 
 /* Waits until this thread has the turn, if the caller needs it, and counts the call. Changes no
- * errno. The other gives the turn back first. */
-void turn_need(const void *caller);
+ * errno. Returns whether the thread has the turn now: what it has found by its call may be less than
+ * there is, if it or a handler had to wait. The other gives the turn back first. */
+bool turn_need(const void *caller);
 void turn_pass(const void *caller);
 
 /* Waits until a lock was unlocked, and for the turn. Returns whether a handler has run meanwhile. In

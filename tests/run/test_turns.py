@@ -1,6 +1,7 @@
 """--seed: one thread runs at a time, so the same seed makes the same order of events."""
 import os
 import pathlib
+import shutil
 import subprocess
 import unittest
 
@@ -89,6 +90,29 @@ class Calls(RunTest):
             with self.subTest(name):
                 self.assertEqual(self.run_on(*STILL, "--seed", 3, "--", program(name)),
                                  self.run_on(*STILL, "--", program(name)))
+
+
+    def test_what_a_thread_finds_at_its_turn(self):
+        # it was woken by the first of several writes
+        shown = {}
+        for seed in [1, 2, 3] * 3:
+            text = self.run_on(*STILL, "--seed", seed, "--", program("turn_files"))
+            self.assertEqual((len(text.splitlines()), "wrong" in text), (13, False), text)
+            self.assertEqual(shown.setdefault(seed, text), text)
+        self.assertEqual(len(set(shown.values())), 3)
+        # not only the first bytes and the first file
+        self.assertIn("4 4 ", shown[1] + shown[2])
+        self.assertIn("7 7 ", shown[1] + shown[2])
+
+    @unittest.skipUnless(shutil.which("bash"), "bash isn't installed")
+    def test_children_of_a_shell(self):
+        # their ends come by a signal that is handled, while others run
+        text = ("f() { for i in 1 2 3 4 5; do x=$(echo $1; date +%s | cat); echo $1 $i $x; done; }; "
+                "(f a) & (f b) & (f c) & wait")
+        shown = {self.run_on(*STILL, "--start", 5, "--seed", 1, "--", "bash", "-c", text)
+                 for _ in range(6)}
+        self.assertEqual(len(shown), 1)
+        self.assertEqual(len(shown.pop().splitlines()), 15)
 
 
 class Holds(RunTest):
