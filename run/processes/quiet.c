@@ -95,6 +95,16 @@ static bool scan_again(const struct tree *first, struct tree *second)
 	return true;
 }
 
+/* Returns whether all threads have ended: then the run is over, and nothing waits. */
+static bool has_ended(const struct tree *tree)
+{
+	for (size_t i = 0; i < tree->count; i++) {
+		if (!tree->threads[i].is_ended)
+			return false;
+	}
+	return true;
+}
+
 bool tree_is_quiet(struct tree *tree)
 {
 	struct tree second = { .has_filter = tree->has_filter,
@@ -103,7 +113,7 @@ bool tree_is_quiet(struct tree *tree)
 	const struct thread_state *running;
 	bool is_quiet;
 
-	if (still_runs(tree) || !tree_scan(tree))
+	if (still_runs(tree) || !tree_scan(tree) || has_ended(tree))
 		return false;
 	running = find_running(tree);
 	tree->running = running ? running->thread : 0;
