@@ -118,9 +118,10 @@ class Numbers(RunTest):
         self.assertEqual(self.start(*SAME, "--seed", 1, "--", "/").returncode, 126)
 
     def begin_sleep(self, *before):
-        run = self.begin(*before, TKRUN, "--quiet", "--counter", "sleeps", "--seed", "1", "--node",
-                         "a", "--", "sh", "-c", "trap 'echo ended' TERM HUP INT; "
-                         "(echo $TKRUN; exec cat); echo over", stdin=subprocess.PIPE)
+        # (whoever runs the tests may ignore signals)
+        run = self.begin("env", "--default-signal", *before, TKRUN, "--quiet", "--counter", "sleeps",
+                         "--seed", "1", "--node", "a", "--", "sh", "-c", "trap 'echo ended' TERM HUP "
+                         "INT; (echo $TKRUN; exec cat); echo over", stdin=subprocess.PIPE)
         return run, run.stdout.readline().strip()
 
     def test_signals_reach_the_program(self):
