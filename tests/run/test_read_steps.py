@@ -2,7 +2,7 @@
 import shutil
 import unittest
 
-from runs import CAN_FILTER, OTHER, STILL, TKRUN, RunTest, needs_root, program
+from runs import CAN_FILTER, OTHER, STILL, TKRUN, RunTest, call, needs_root, program
 
 COUNTED = program("counted")
 CALLS = ["gettime", "coarse", "timeofday", "time", "timespec", "ftime"]
@@ -121,11 +121,11 @@ class ReadSteps(RunTest):
 
     @needs_root("starts another user's process")
     def test_reads_of_another_user_are_not_counted(self):
-        self.share()
-        copy = self.folder / "counted"
+        tkrun, copy = self.share() / "bin/tkrun", self.folder / "counted"
         shutil.copy(COUNTED, copy)
-        run = self.start(*STILL, "--start", START, "--step-after-reads", "2:+50", "--quiet", "--",
-                         "sh", "-c", f"{' '.join(OTHER)} {copy} time 5; {copy} time 4")
+        run = call([tkrun, *map(str, STILL), "--start", str(START), "--step-after-reads", "2:+50",
+                    "--quiet", "--", "sh", "-c",
+                    f"{' '.join(OTHER)} {copy} time 5; {copy} time 4"])
         self.assertEqual(run.stdout, "1000 " * 5 + "\n1000 1000 1050 1050 \n", run.stderr)
 
     def test_wrong_values(self):
