@@ -2,8 +2,8 @@
 /* read_steps.c - steps of REALTIME that come after a number of reads. */
 #include "read_steps.h"
 
-/* Makes the steps that come after so many reads, unless another thread has made them. If the thread
- * is killed before, the next read makes them. */
+/* Makes the steps that are due after this number of reads, unless another thread has made them. If
+ * the thread is killed before, the next read makes them. */
 static void make_due(struct machine *machine, uint64_t reads)
 {
 	struct read_steps *steps = &machine->control->read_steps;
