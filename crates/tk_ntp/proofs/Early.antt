@@ -136,7 +136,7 @@ settled early reading steered h low =
           low)));
     }
 
--- what is kept beside the clocks
+-- the countdown that an owner stores
 
 pub in_second : (early cycles : ℕ) (steered : SteeredClock) → cycles < early →
     IsEarlyBy early steered → IsInSecond early steered

@@ -29,7 +29,8 @@ pub record IsInSecond (early : ℕ) (steered : SteeredClock) : Type 0 where
   pub mark : steered.mark ≡ steered.clock.base.last
   pub ahead : IsEarlyFor early steered
 
--- what a number of cycles says that is kept beside steered clocks; 0 says nothing
+-- what the countdown of an owner promises: `early` cycles without a second of the discipline; 0
+-- promises nothing
 abbrev pub IsEarlyBy : ℕ → SteeredClock → Type 0
 IsEarlyBy zero steered = ⊤
 IsEarlyBy (suc rest) steered = IsInSecond (suc rest) steered

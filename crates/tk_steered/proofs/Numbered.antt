@@ -32,7 +32,7 @@ by-acts None who reading cmd before after result told is h = (result, h, is)
 by-acts (Some request) who reading cmd before after result told is h =
     (h.0, h.1, is ∙ same-number h.0 result (accepted_count after.keeper.journal) h.2)
 
--- a command whose result is told with its number
+-- a command whose result is returned with its number
 pub applied : (who reading : ℕ) (cmd : Command) (before after : SteeredKeeper)
     (result : Result ⊤ Refusal) (told : Result ℕ Refusal) →
     told ≡ numbered result (accepted_count after.keeper.journal) →

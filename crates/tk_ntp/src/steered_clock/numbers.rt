@@ -26,7 +26,7 @@ impl SteeredClock {
     /// steered clocks can be in are accepted, together or not: the caller passes those that belong
     /// together.
     ///
-    /// `is_marked` tells whether the laws of the lag hold for them.
+    /// Ask `is_marked` whether the laws of the lag hold for them.
     ///
     /// # Errors
     ///
