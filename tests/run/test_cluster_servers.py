@@ -1,5 +1,5 @@
-"""The examples of clusters with servers: redis with sentinels, a lock in redis, and PostgreSQL with a
-standby."""
+"""The examples of clusters with servers: redis with sentinels, a lock of redis, and PostgreSQL's
+replication through a leap second."""
 import datetime
 import unittest
 

@@ -8,7 +8,7 @@ import subprocess
 import unittest
 from fractions import Fraction
 
-from runs import CAN_FILTER, CAN_TRACE, STILL, TKRUN, RunTest, call, program
+from runs import CAN_FILTER, CAN_TRACE, ROOT, STILL, TKRUN, RunTest, call, program
 
 SECOND = 10**9
 CLOCKS = program("nodes_clocks")
@@ -140,6 +140,13 @@ class Nodes(RunTest):
         for words, out in [(["node", "x"], "x\n"), (["--", "node", "a", "--", "x"], "a -- x\n")]:
             run = self.start("--quiet", *words, env=env)
             self.assertEqual((run.returncode, run.stdout), (0, out))
+
+    def test_how_often_the_counter_moves_is_measured(self):
+        run = call([ROOT / "bench/tkrun/nodes", "2", "3"])
+        self.assertEqual((run.returncode, run.stderr), (0, ""))
+        # (six threads sleep 50 times more in the long run)
+        self.assertRegex(run.stdout, r"\A2 nodes of 3 threads: 300 moves, -?\d+ in a second of the "
+                                     r"host, -?\d+ in a second of processor time\n\Z")
 
     def test_running_counters(self):
         # the node counts between the two reads of the program's clocks
