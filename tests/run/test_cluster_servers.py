@@ -1,10 +1,14 @@
 """The examples of clusters with servers: redis with sentinels, a lock of redis, and PostgreSQL's
 replication through a leap second."""
 import datetime
+import os
+import pathlib
+import subprocess
+import tempfile
 import unittest
 
 from runs import needs
-from test_cluster import run
+from test_cluster import EXAMPLES, run
 from test_postgresql import FOLDERS
 
 ROWS = 11  # that the example of PostgreSQL inserts
@@ -31,6 +35,16 @@ class RedisLock(unittest.TestCase):
         self.assertEqual((0, [], 1), (found[0], found[2], len(found[1])))
         self.assertRegex(found[1][0], r"^seed 2: both held the lock for [1-9]\.[0-9]{3} ms$")
         self.assertEqual(found, run("redis_lock.py", "2"))
+
+    @needs("redis-server")
+    def test_a_seed_is_that_of_both_links_and_of_the_walk(self):
+        with tempfile.TemporaryDirectory() as folder:
+            words, program = pathlib.Path(folder, "words"), pathlib.Path(folder, "tkrun")
+            program.write_text(f'#!/bin/sh\necho "$@" >{words}\nexit 1\n')
+            program.chmod(0o755)
+            subprocess.run([EXAMPLES / "redis_lock.py", "7"], capture_output=True, check=False,
+                           env={**os.environ, "TKRUN_PROGRAM": str(program)})
+            self.assertEqual(3, words.read_text().count("seed=7"))
 
     def test_wrong_words(self):
         usage = "usage: examples/cluster/redis_lock.py [SEEDS]     such as 7 or 7-20"

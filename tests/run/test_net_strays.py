@@ -1,7 +1,15 @@
 """What goes from one node to another by an address to which no link leads: tkrun names both."""
 import unittest
+from unittest import mock
 
 from links import PORT, LinkTest
+from runs import TKRUN, succeeds
+
+# starts tkrun in a network where the host has an address of IPv6 more
+ADDED = "ip link set lo up && ip -6 addr add fd00::3/128 dev lo nodad"
+IN_NETWORK = f"""#!/bin/sh
+exec unshare -n sh -c '{ADDED} && exec "$0" "$@"' {TKRUN} "$@"
+"""
 
 # takes a datagram or a connection, of one family, and stays until tkrun has looked
 DATAGRAM = """
@@ -46,6 +54,16 @@ class Strays(LinkTest):
                 with self.subTest(family=family, own=own, call=call):
                     self.check(DATAGRAM.format(family, own),
                                SEND.format(family, call.format(address)), said(address))
+
+    @unittest.skipUnless(succeeds("unshare", "-n", "sh", "-c", ADDED), "no address can be added")
+    def test_an_address_of_ipv6_that_root_added(self):
+        program = self.file("tkrun", IN_NETWORK)
+        program.chmod(0o755)
+        with mock.patch("runs.TKRUN", program):
+            for receive, send in [(DATAGRAM, SEND.format("AF_INET6",
+                                                         'sendto(b"1", ("fd00::3", PORT))')),
+                                  (STREAM, CONNECT.format("AF_INET6", "fd00::3", True))]:
+                self.check(receive.format("AF_INET6", "fd00::3"), send, said("fd00::3"))
 
     def test_connections(self):
         for family, own, address in [("AF_INET6", "::1", "::1"), ("AF_INET6", "::", "::1"),
