@@ -78,8 +78,8 @@ put(const struct logged_call *call, const char *form, ...)
 
 	if (!call->log || !*call->log->path)
 		return;
-	length = snprintf(line, sizeof(line), "%d %s ", call->process,
-			  call->name);
+	length = snprintf(line, sizeof(line), "%s%s%d %s ", call->log->node,
+			  *call->log->node ? " " : "", call->process, call->name);
 	va_start(list, form);
 	length += vsnprintf(line + length, sizeof(line) - (size_t)length, form,
 			    list);

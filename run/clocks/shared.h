@@ -146,7 +146,8 @@ struct rows {
 struct log {
 	_Atomic uint64_t written, lost; /* lines */
 	_Atomic int32_t error; /* why the first lost line was, or 0 */
-	char path[4096];       /* of --log, or none */
+	char path[4064];       /* of --log, or none */
+	char node[32];	       /* the first word of each line: the node, or none */
 };
 
 /* The latest moves of a counter of sleeps, with --stamps: the host's REALTIME after each, and the

@@ -75,13 +75,14 @@ void print_faults(const struct run *run)
 void print_log(const struct node *node)
 {
 	const struct log *log = &node->machine.control->log;
+	const char *name = node_prefix(node);
 
 	if (!log->lost)
 		return;
 	fprintf(stderr,
-		"tkrun: the log ends before line %" PRIu64 ": %s\n"
-		"tkrun: %" PRIu64 " %s in the log\n",
-		log->written + 1, strerror(log->error), log->lost,
+		"tkrun: %sthe log ends before line %" PRIu64 ": %s\n"
+		"tkrun: %s%" PRIu64 " %s in the log\n",
+		name, log->written + 1, strerror(log->error), name, log->lost,
 		log->lost == 1 ? "line isn't" : "lines aren't");
 }
 

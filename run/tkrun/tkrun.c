@@ -145,7 +145,21 @@ static void start_log(struct options *options)
 		fail(STATUS_WRONG, "--log: cannot write '%s': %s", options->log,
 		     strerror(errno));
 	fclose(file);
+	if (strlen(full) >= sizeof(((struct log *)NULL)->path))
+		fail(STATUS_WRONG, "--log: '%s' is too long a name", full);
 	options->log = full;
+}
+
+/* Lets the nodes write to the log. Their lines begin with their names. */
+static void share_log(struct run *run)
+{
+	for (size_t i = 0; i < run->count; i++) {
+		struct log *log = &run->nodes[i].machine.control->log;
+
+		strcpy(log->path, run->nodes->options.log);
+		if (run->nodes[i].options.name)
+			strcpy(log->node, run->nodes[i].options.name);
+	}
 }
 
 /* Applies the script's orders at the opening's reading, so that the program
@@ -199,8 +213,8 @@ static void open_all(struct run *run)
 
 	open_machines(run);
 	coverage_start(run->nodes->folder);
-	for (size_t i = 0; options->log && i < run->count; i++)
-		strcpy(run->nodes[i].machine.control->log.path, options->log);
+	if (options->log)
+		share_log(run);
 	if (options->record || options->is_checked)
 		start_records(run);
 	for (size_t i = 0; i < run->count; i++) {
