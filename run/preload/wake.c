@@ -18,6 +18,7 @@ enum {
 	STACK_BYTES = 1024, /* of the C library's functions: a handler's frame is larger */
 	COMING_NANOS = 1000000000, /* the longest wait for a signal that was sent */
 	CALL_BYTES = 2,
+	OPERATION_BITS = 0x1ff, /* of a futex: less than any address */
 	KEPT_MOST = 8, /* signals of others that come before tkrun's */
 };
 
@@ -59,12 +60,24 @@ static bool is_wait(const greg_t *registers)
 	}
 }
 
+/* Returns whether a system call, which may be over, waits for a futex without a time-out. So the C
+ * library waits for its own locks, and for the mutex after a condition variable was woken. It ends
+ * the process if such a wait returns that a time has come. The other calls of waits with this
+ * result have an address instead of the operation, or a time-out. */
+static bool is_untimed(const greg_t *registers, long result)
+{
+	return result == -ETIMEDOUT && !registers[REG_R10] &&
+	       !(registers[REG_RSI] & ~OPERATION_BITS);
+}
+
 /* Lets the present system call return that its time has come, if this signal has
  * interrupted it, or comes just before it begins, or is restarted. */
 static void end_call(greg_t *registers, long result)
 {
 	const unsigned char *next = (const unsigned char *)registers[REG_RIP];
 
+	if (is_untimed(registers, result))
+		return;
 	if (registers[REG_RAX] == -EINTR &&
 	    !memcmp(next - CALL_BYTES, CALL, CALL_BYTES)) {
 		registers[REG_RAX] = result;

@@ -108,6 +108,13 @@ class Calls(RunTest):
                 # two seconds of the host, on a busy machine
                 self.assertLess(int(value), WAIT + 20_000_000_000)
 
+    def test_a_time_that_comes_while_a_mutex_is_locked_again(self):
+        # the C library locks it without a time-out, and ends a process for which one has come
+        for words in [[], [63]]:
+            with self.subTest(words):
+                ends = self.run_on(*STILL, "--uptime", 0, "--", program("relocks"), *words)
+                self.assertEqual(ends, "normal 0 2 0\nrobust 0 2 0\ninheriting 0 2 0\n")
+
     def test_waits_on_a_counter_of_sleeps(self):
         for name, count in WAITS.items():
             self.check_exact(name, count)

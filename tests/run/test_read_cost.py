@@ -1,11 +1,16 @@
 """--read-cost: each read of a clock moves a counter of sleeps, so programs that spin end. A test
 fails by its limit if such a program goes on."""
+import ctypes
+import os
+import pathlib
 import re
+import subprocess
 import unittest
 
-from runs import CAN_FILTER, STILL, TKRUN, RunTest, call, program
+from runs import CAN_FILTER, STILL, TKRUN, RunTest, call, program, wait_until
 
 SECOND = 10**9
+PTRACE_SEIZE = 0x4206
 SPINS = program("spins")
 FINE = [0, 1, 4, 7, 11]  # the clocks that the counter moves at once
 COARSE = [5, 6]
@@ -29,6 +34,12 @@ def coarse_spin(cost, most):
         now = read()
         reads += 1
     return f"{reads} {now - start}\n"
+
+
+def status_of(process, name):
+    """A value in the status of a process."""
+    text = pathlib.Path(f"/proc/{process}/status").read_text()
+    return re.search(f"^{name}:\\s*(.*)", text, re.M)[1]
 
 
 class ReadCost(RunTest):
@@ -155,6 +166,24 @@ class ReadCost(RunTest):
         self.assertEqual(len(commons), 5)
         self.assertTrue(all(common >= i * 10 * SECOND for i, common in enumerate(commons)))
         self.assertEqual(call([TKRUN, "merge", self.folder / "r"]).stdout.count("error-ppm"), 6)
+
+    def test_an_end_that_tkrun_sees_before_it_can_reap(self):
+        # a process that a tracer has to reap first
+        record = self.folder / "r"
+        run = self.begin(TKRUN, "--quiet", *STILL, "--read-cost", 1000, "--record", record, "--",
+                         program("ended"), 5, stdin=subprocess.PIPE)
+        process = int(run.stdout.readline())
+        if ctypes.CDLL(None).ptrace(PTRACE_SEIZE, process, None, None):
+            self.skipTest("the kernel lets the test trace nothing")
+        run.stdin.close()
+        wait_until(lambda: status_of(process, "State")[0] == "Z")
+        switches = int(status_of(run.pid, "voluntary_ctxt_switches"))
+        wait_until(lambda: int(status_of(run.pid, "voluntary_ctxt_switches")) > switches + 100)
+        os.waitpid(process, 0)
+        self.assertEqual(run.wait(), 0)
+        lines = record.read_text().splitlines()
+        self.assertEqual([line.split(",")[:2] for line in lines[-5:]],
+                         [["get", str(i * 1000)] for i in range(5)])
 
     def test_wrong_values(self):
         for words, sentence in [

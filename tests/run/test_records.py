@@ -41,7 +41,8 @@ class Records(RunTest):
 
     def test_a_value_that_differs(self):
         # puts a digit in front of the value that each read of REALTIME states
-        run = self.check_by("sed 's/,realtime,/&1/'", "--start", 1000000000, "--", "date")
+        run = self.check_by("sed 's/,realtime,/&1/'", *STILL, "--start", 1000000000, "--",
+                            "date")
         self.assertEqual(run.returncode, 3)
         self.assertIn("the program saw '1000000000.", run.stderr)
         self.assertIn("and tkcore gives 'at,realtime,1000000000.", run.stderr)
