@@ -28,13 +28,16 @@ COUNTS = {
     HEADER: {
         r"^#define TKC_WORDS (\d+)$": [f"{WORDS} of a snapshot", f"snapshot(?:'s| is| as) {WORDS}"],
         r"^#define TKC_SAVED_WORDS (\d+)$": [
-            f"(?<!steered )clocks (?:with their counter as {WORDS}|as {WORDS} with their counter)"],
+            f"(?<!steered )clocks (?:with their counter as {WORDS}|as {WORDS} with their counter)",
+            f"`tkc_clock_save` stores {WORDS}", r"the (\w+) of `tkc_clock_save`"],
         r"^#define TKC_NTP_SAVED_WORDS (\d+)$": [
-            f"steered clocks (?:with their counter as {WORDS}|as {WORDS} with their counter)"],
+            f"steered clocks (?:with their counter as {WORDS}|as {WORDS} with their counter)",
+            f"stores steered clocks as {WORDS}"],
     },
     "crates/tk_page/src/packing.rt": {
         r"^pub const PAGE_WORDS: usize = (\d+);$": [f"{WORDS} of a page",
-                                                    f"[Aa] page (?:has|stores|of) {WORDS}"],
+                                                    f"[Aa] page (?:has|stores|of) {WORDS}",
+                                                    r"words of a snapshot into (\w+)"],
     },
 }
 

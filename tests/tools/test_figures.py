@@ -92,6 +92,14 @@ class Figures(unittest.TestCase):
         self.assertEqual(["a.md: steered clocks as 15 words with their counter, "
                           "but include/tkcore.h has 33"],
                          self.counts("steered clocks as 15 words with their counter"))
+        self.assertEqual(["a.md: `tkc_clock_save` stores 14 words, but include/tkcore.h has 15",
+                          "a.md: the 13 of `tkc_clock_save`, but include/tkcore.h has 15",
+                          "a.md: stores steered clocks as 32 words, but include/tkcore.h has 33"],
+                         self.counts("`tkc_clock_save` stores 14 words. It stores steered clocks as "
+                                     "32 words: the 13 of `tkc_clock_save`."))
+        self.assertEqual(["a.md: words of a snapshot into nine, "
+                          "but crates/tk_page/src/packing.rt has 8"],
+                         self.counts("It packs the ten words of a snapshot into nine."))
 
     def sse(self, text):
         """Returns the faults of a page on the calls that use SSE registers."""
