@@ -23,9 +23,7 @@ class CheckLinux(Case):
         self.stand_in("qemu-system-x86_64", "echo 'QEMU 7.2'")
         self.stub("tools/packages", "exit 0")
         self.stub("tools/assemble", 'mkdir -p "$2/lib" && echo x >"$2/lib/libtkcore_kernel_sse.a"')
-        for name in "late.py", "process.py":
-            self.stub(f"ports/linux/tests/{name}", "exit 0")
-        for name in "build", "selftests", "compare":
+        for name in "tests/late.py", "tests/process.py", "build", "selftests", "compare":
             self.stub(f"ports/linux/{name}", NOTES.format(room=self.room))
         self.kept = self.room / "kept/linux"
 
@@ -45,14 +43,17 @@ class CheckLinux(Case):
     def test_a_run_finds_the_kernels_that_another_one_built(self):
         self.assertEqual((0, ["build"]), self.check("--build"))
         self.assertEqual((0, []), self.check("--build"))
-        self.assertEqual((0, ["selftests", "compare"]), self.check())
-        self.assertEqual((0, ["compare"]), self.check())
+        in_process = ["late.py", "process.py"]
+        self.assertEqual((0, [*in_process, "selftests", "compare"]), self.check())
+        self.assertEqual((0, [*in_process, "compare"]), self.check())
+        self.assertEqual((0, in_process), self.check("--process"))
 
     def test_a_build_that_failed_is_made_again(self):
         self.stub("ports/linux/build", f"{NOTES.format(room=self.room)}; exit 3")
         self.assertEqual((3, ["build"]), self.check("--build"))
         self.stub("ports/linux/build", NOTES.format(room=self.room))
-        self.assertEqual((0, ["build", "selftests", "compare"]), self.check())
+        wanted = ["late.py", "process.py", "build", "selftests", "compare"]
+        self.assertEqual((0, wanted), self.check())
 
     def until(self, is_so):
         for _ in range(600):
@@ -76,7 +77,8 @@ class CheckLinux(Case):
                 go.touch()
                 self.assertEqual((0, 0), (first.wait(60), second.wait(60)))
         calls = (self.room / "calls").read_text(encoding="utf-8").splitlines()
-        self.assertEqual(["build", "selftests", "compare"], [it.split()[0] for it in calls])
+        wanted = ["build", "late.py", "process.py", "selftests", "compare"]
+        self.assertEqual(wanted, [it.split()[0] for it in calls])
 
     def test_a_guest_that_outlives_its_run_keeps_no_other_one_waiting(self):
         left = self.room / "left"
@@ -85,7 +87,7 @@ class CheckLinux(Case):
         self.assertEqual(0, self.check()[0])
         number = int(left.read_text(encoding="utf-8"))
         try:
-            self.assertEqual((0, ["compare"]), self.check())
+            self.assertEqual((0, ["late.py", "process.py", "compare"]), self.check())
             os.kill(number, 0)  # (it is still there)
         finally:
             os.kill(number, 9)

@@ -234,7 +234,7 @@ class Ci(Case):
     def test_kernels_are_built_beside_rt_ci_and_guests_run_beside_check_run(self):
         built, began = self.room / "built", self.room / "began"
         self.stub("check_linux", f"""[ "$(nice)" = 19 ] || exit 3
-            [ "$1" != --build ] || {{ touch {built}; exit 1; }}
+            [ "$1" != --build ] || {{ echo built >>{built}; exit 1; }}
             [ $# = 0 ] && touch {began}
             {until(f"[ -e {self.room}/ran ]")}""")
         self.stub("rt ci", until(f"[ -e {built} ]"))
@@ -243,6 +243,7 @@ class Ci(Case):
         status, verdicts, _, said = self.run_ci()
         # (what makes the kernels may fail: check_linux itself makes those that are missing)
         self.assertEqual((0, "ran"), (status, verdicts["check_linux"]), said)
+        self.assertEqual("built\n", built.read_text(encoding="utf-8"))
 
     def test_no_kernel_is_built_without_its_packages(self):
         began = self.room / "began"
