@@ -5,6 +5,7 @@ import sys
 
 sys.dont_write_bytecode = True
 import rattle  # noqa: E402
+from checks.job import BESIDE, IDLE  # noqa: E402
 from checks.run import Run  # noqa: E402
 from checks.stops import Stops  # noqa: E402
 
@@ -16,7 +17,8 @@ LIMIT_SEC = 3600  # no check but the proofs takes longer, on two processors too
 def check_all(run):
     """Runs all checks; those that take long only if the first ones pass.
 
-    Packages may be installed meanwhile: a check that misses some waits for them.
+    Packages may be installed meanwhile: a check that misses some waits for them. check_linux runs on
+    the processors that the checks after `rt ci` leave idle: its guests are in virtual time.
     """
     run.check("check_docs", "tools/check_docs")
     run.check("must_fail", "tools/must_fail", "--apply")
@@ -27,6 +29,7 @@ def check_all(run):
     prove(run, proofs, libraries, built)
     if not run.has_failed():
         run.start("check_program", proofs / "tools/check_program", "--libraries", libraries)
+        run.start("check_linux", "tools/check_linux", nice=IDLE)
     for name in "tests/tools", "check_using", "check_c":
         run.end(name)
     if built.is_dir() or not run.has_failed("check_c"):
@@ -36,27 +39,29 @@ def check_all(run):
         return
     os.environ["TKCORE"] = str(proofs / "crates/tkcore/out/tkcore")
     run.start("check_kernel", "tools/check_kernel", "--dist", built)
-    run.start("check_web", "tools/check_web", "--libraries", libraries, is_beside=True)
+    run.start("check_web", "tools/check_web", "--libraries", libraries, nice=BESIDE)
     run.check("check_run", "tools/check_run", "--dist", built)
     run.end("check_kernel")
     run.end("check_web")
-    run.check("check_linux", "tools/check_linux")
+    run.end("check_linux")
 
 
 def prove(run, proofs, libraries, built):
     """Runs `rt ci`, and what needs no proof next to it as soon as the packages are installed.
 
-    check_c starts when the libraries below it are proved.
+    check_c starts when the libraries below it are proved. The kernels of check_linux are built on
+    the processors that all others leave idle.
     """
     below = [libraries / f"{it.name}.rlib" for it in rattle.crates()["tk_c"].below]
 
     def start_all():
         run.start("tests/tools", "python3", "-B", "-m", "unittest", "discover", "-s",
-                  "tests/tools", is_beside=True)
-        run.start("check_using", "tools/check_using", is_beside=True)
+                  "tests/tools", nice=BESIDE)
+        run.start("check_using", "tools/check_using", nice=BESIDE)
+        run.prepare("check_linux", "tools/check_linux", "--build")
         if run.has_ended("rt ci") or all(it.exists() for it in below):
             run.start("check_c", "tools/check_c", "--libraries", libraries, "--keep", built,
-                      is_beside=True)
+                      nice=BESIDE)
 
     def start_if_ready():
         if run.has_packages():

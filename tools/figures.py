@@ -1,4 +1,4 @@
-"""The figures that pages state: ratios of times, times of tools, and numbers of words."""
+"""The figures that pages state: ratios of times, times of tools, numbers of words and of calls."""
 import re
 
 from ci import CHECKS
@@ -14,19 +14,30 @@ TIME = re.compile(r"(\S.*?) +(\d+|\?) s +(\d+|\?) s")
 TOOL = re.compile(r"(?:^|[\s`(])(tools/\w+|\.ci/run|rt ci)\b")
 DURATION = re.compile(r"\b(?:\d[\d.,]*|an?|one|two|three|five|ten|half an?|few|some) "
                       r"(?:processor )?(?:s|seconds?|minutes?|hours?)\b(?! time)")
+HEADER, CONVERT = "include/tkcore.h", "tkc_snapshot_convert"
+CALL = re.compile(r"tkc_\w+")
+# the header's list of the calls that use SSE registers, and how pages list or count them
+SSE_CALLS = re.compile(r"- (tkc_[\w, ]+) use SSE registers")
+SSE_LIST = re.compile(r"(?:in most calls \| only in|Only these use SSE registers:)"
+                      r"((?:,? (?:and )?`tkc_\w+`)+)")
+NOT_ANYWHERE = re.compile(r"All calls except (\w+) may then be made in any context")
+STEERED = re.compile(r"(\w+) calls on steered clocks use SSE registers")
 WORDS = r"(\w+) (?:64-bit )?words"
 # how pages state numbers of words, and the constant of the header or of a crate
 COUNTS = {
-    "include/tkcore.h": {
+    HEADER: {
         r"^#define TKC_WORDS (\d+)$": [f"{WORDS} of a snapshot", f"snapshot(?:'s| is| as) {WORDS}"],
         r"^#define TKC_SAVED_WORDS (\d+)$": [
-            f"(?<!steered )clocks (?:with their counter as {WORDS}|as {WORDS} with their counter)"],
+            f"(?<!steered )clocks (?:with their counter as {WORDS}|as {WORDS} with their counter)",
+            f"`tkc_clock_save` stores {WORDS}", r"the (\w+) of `tkc_clock_save`"],
         r"^#define TKC_NTP_SAVED_WORDS (\d+)$": [
-            f"steered clocks (?:with their counter as {WORDS}|as {WORDS} with their counter)"],
+            f"steered clocks (?:with their counter as {WORDS}|as {WORDS} with their counter)",
+            f"stores steered clocks as {WORDS}"],
     },
     "crates/tk_page/src/packing.rt": {
         r"^pub const PAGE_WORDS: usize = (\d+);$": [f"{WORDS} of a page",
-                                                    f"[Aa] page (?:has|stores|of) {WORDS}"],
+                                                    f"[Aa] page (?:has|stores|of) {WORDS}",
+                                                    r"words of a snapshot into (\w+)"],
     },
 }
 
@@ -99,11 +110,27 @@ def other_counts(found):
                     yield f"{name}: {it[0]}, but {source} has {count}"
 
 
+def other_sse_calls(found):
+    """Lists of the calls that use SSE registers, and their numbers, which the header has otherwise."""
+    listed = SSE_CALLS.search((ROOT / HEADER).read_text(encoding="utf-8").replace("\n *", " "))
+    calls = set(CALL.findall(listed[1]))
+    counts = {NOT_ANYWHERE: len(calls), STEERED: len(calls - {CONVERT})}
+    for page in found.values():
+        text = " ".join(page.text.split())
+        for others in (set(CALL.findall(it)) ^ calls for it in SSE_LIST.findall(text)):
+            if others:
+                yield f"{page.name}: SSE registers: not as in {HEADER}: {' '.join(sorted(others))}"
+        for form, count in counts.items():
+            yield from (f"{page.name}: {it[0]}, but {HEADER} lists {count}"
+                        for it in form.finditer(text) if number_of(it[1]) != count)
+
+
 def faults(found):
     """Yields each fault in the figures of the pages, which are given by their names."""
     yield from other_ratios(found)
     yield from other_heads(found)
     yield from wrong_times((ROOT / TIMES).read_text(encoding="utf-8"))
     yield from other_counts(found)
+    yield from other_sse_calls(found)
     for page in found.values():
         yield from stated_times(page)

@@ -47,8 +47,13 @@ check_rust_memory() {
 
 # What Cargo.toml and docs/RUST.md say of the crate: no dependency, no std, unsafe code only in sys.
 check_crate() {
-    local code=$top/bindings/rust
+    local name code=$top/bindings/rust
     [ "$(grep -c '^name' "$code/Cargo.lock")" = 1 ] || fail "the Rust crate has a dependency"
+    # (cargo itself notices changes of its own variables)
+    while read -r name; do
+        grep -q "for name in \[.*\"$name\"" "$code/build.rs" ||
+            fail "build.rs reads $name, and cargo doesn't run it again when that changes"
+    done < <(grep -oP 'env::var(_os)?\("\K(?!CARGO_)\w+' "$code/build.rs")
     awk '/^(pub )?mod / && before != "#[forbid(unsafe_code)]" { print } { before = $0 }' \
         "$code/src/lib.rs" | diff - <(echo 'mod sys;') ||
         fail "another module than sys may contain unsafe code"

@@ -231,6 +231,28 @@ class Ci(Case):
         status, verdicts, _, said = self.run_ci()
         self.assertEqual((0, "ran", "ran"), (status, verdicts["rt ci"], verdicts["check_c"]), said)
 
+    def test_kernels_are_built_beside_rt_ci_and_guests_run_beside_check_run(self):
+        built, began = self.room / "built", self.room / "began"
+        self.stub("check_linux", f"""[ "$(nice)" = 19 ] || exit 3
+            [ "$1" != --build ] || {{ echo built >>{built}; exit 1; }}
+            [ $# = 0 ] && touch {began}
+            {until(f"[ -e {self.room}/ran ]")}""")
+        self.stub("rt ci", until(f"[ -e {built} ]"))
+        self.stub("check_run", f"""{until(f"[ -e {began} ]")}
+            touch {self.room}/ran""")
+        status, verdicts, _, said = self.run_ci()
+        # (what makes the kernels may fail: check_linux itself makes those that are missing)
+        self.assertEqual((0, "ran"), (status, verdicts["check_linux"]), said)
+        self.assertEqual("built\n", built.read_text(encoding="utf-8"))
+
+    def test_no_kernel_is_built_without_its_packages(self):
+        began = self.room / "began"
+        self.write("tools/packages.txt", f"{LIST}check_linux a-kernel a-kernel all\n")
+        self.stub("check_linux", f"touch {began}")
+        _, verdicts, _, _ = self.run_ci()
+        self.assertEqual("left out: a-kernel", verdicts["check_linux"])
+        self.assertFalse(began.exists())
+
     def test_the_packages_are_checked_after_rt_ci_failed_and_the_program_is_not(self):
         self.stub("rt ci", "echo '40 passed, 2 failed'\nexit 1")
         status, verdicts, last, said = self.run_ci()
@@ -282,10 +304,11 @@ class Ci(Case):
         started = self.room / "started"
         self.stub("check_using", f"sleep 3600 & echo $! >{started}.using\nwait")
         self.stub("rt ci", f"sleep 3600 & echo $! >{started}.rt\nwait")
+        self.stub("check_linux", f"sleep 3600 & echo $! >{started}.linux\nwait")
         path = f"{self.first}:{os.environ['PATH']}"
         with subprocess.Popen([str(self.top / ".ci/run")], stdout=subprocess.DEVNULL,
                               env={**os.environ, "PATH": path, "TMPDIR": str(self.room)}) as ran:
-            files = [pathlib.Path(f"{started}.{it}") for it in ("using", "rt")]
+            files = [pathlib.Path(f"{started}.{it}") for it in ("using", "rt", "linux")]
             for _ in range(600):
                 if all(it.exists() and it.read_text() for it in files):
                     break

@@ -92,3 +92,37 @@ class Figures(unittest.TestCase):
         self.assertEqual(["a.md: steered clocks as 15 words with their counter, "
                           "but include/tkcore.h has 33"],
                          self.counts("steered clocks as 15 words with their counter"))
+        self.assertEqual(["a.md: `tkc_clock_save` stores 14 words, but include/tkcore.h has 15",
+                          "a.md: the 13 of `tkc_clock_save`, but include/tkcore.h has 15",
+                          "a.md: stores steered clocks as 32 words, but include/tkcore.h has 33"],
+                         self.counts("`tkc_clock_save` stores 14 words. It stores steered clocks as "
+                                     "32 words: the 13 of `tkc_clock_save`."))
+        self.assertEqual(["a.md: words of a snapshot into nine, "
+                          "but crates/tk_page/src/packing.rt has 8"],
+                         self.counts("It packs the ten words of a snapshot into nine."))
+
+    def sse(self, text):
+        """Returns the faults of a page on the calls that use SSE registers."""
+        return list(figures.other_sse_calls({"a.md": page("a.md", text)}))
+
+    def test_calls_with_sse_registers_are_those_of_the_header(self):
+        steered = [f"`tkc_ntp_{it}`" for it in ("open", "open_at", "advance", "advance_late", "apply",
+                                                "next_second", "save")]
+        listed = f"`tkc_snapshot_convert`, {', '.join(steered)},\n`tkc_adjtimex` and `tkc_ntp_load`"
+        self.assertEqual([], self.sse(f"Only these use SSE registers:\n  {listed} (`sse_calls`)."))
+        self.assertEqual([], self.sse(f"| SSE | in most calls | only in {listed} |"))
+        fault = "a.md: SSE registers: not as in include/tkcore.h: "
+        for form in "Only these use SSE registers: {}.", "| in most calls | only in {} |":
+            self.assertEqual([f"{fault}tkc_ntp_save"],
+                             self.sse(form.format(listed.replace("`tkc_ntp_save`,", ""))))
+            self.assertEqual([f"{fault}tkc_ntp_leap"], self.sse(form.format(f"`tkc_ntp_leap`, {listed}")))
+
+    def test_the_number_of_these_calls_is_the_headers(self):
+        self.assertEqual([], self.sse("All calls except ten may then be made in any context."))
+        self.assertEqual([], self.sse("Nine calls on steered clocks\nuse SSE registers."))
+        self.assertEqual(["a.md: All calls except eight may then be made in any context, "
+                          "but include/tkcore.h lists 10"],
+                         self.sse("All calls except eight may then be\nmade in any context."))
+        self.assertEqual(["a.md: seven calls on steered clocks use SSE registers, "
+                          "but include/tkcore.h lists 9"],
+                         self.sse("and seven calls on steered clocks use SSE registers"))

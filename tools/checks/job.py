@@ -7,19 +7,21 @@ import subprocess
 import time
 
 PAUSE = 0.1  # s between two looks at a command's output
-BESIDE = 5  # how nice a command is that runs beside others: it gets a third of their time
+# how nice a command is that runs beside others, of whose time it gets a third, and one that only
+# fills processors that are idle
+BESIDE, IDLE = 5, 19
 GRACE = 10  # s that a command has to end after SIGTERM
 
 
 class Job:
     """A command that runs. Its output goes into a file."""
 
-    def __init__(self, command, output, is_beside, limit_sec=None):
-        """Starts a command; beside others, mostly on the processors that they leave idle. It is
-        ended if it takes longer than the limit."""
+    def __init__(self, command, output, nice=0, limit_sec=None):
+        """Starts a command, which is so nice to others. It is ended if it takes longer than the
+        limit."""
         self.output = pathlib.Path(output)
         self.started, self.limit_sec = time.monotonic(), limit_sec
-        words = [*(["nice", "-n", str(BESIDE)] if is_beside else []), *map(str, command)]
+        words = [*(["nice", "-n", str(nice)] if nice else []), *map(str, command)]
         with open(self.output, "wb") as file:
             self.process = subprocess.Popen(words, stdin=subprocess.DEVNULL, stdout=file,
                                             stderr=subprocess.STDOUT, process_group=0)

@@ -6,7 +6,7 @@ import tempfile
 import time
 
 from checks import packages, verdict
-from checks.job import Job
+from checks.job import IDLE, Job
 
 LEFT_IN_TREE = ["out", "dist", "__pycache__"]  # what a copy of the tree doesn't get
 
@@ -39,7 +39,7 @@ class Run:
     def install(self):
         """Starts to install the packages that are missing."""
         with self.stops.held():
-            self.installing = Job(["tools/packages", "--install"], self.work / "packages", False)
+            self.installing = Job(["tools/packages", "--install"], self.work / "packages")
 
     def has_packages(self):
         """Whether nothing is being installed."""
@@ -57,7 +57,7 @@ class Run:
             packages.installed.cache_clear()
         self.installing = None
 
-    def start(self, name, *command, is_beside=False, is_limited=True):
+    def start(self, name, *command, nice=0, is_limited=True):
         """Starts a check unless it was started, or a package isn't there that all of it needs.
 
         If any of its packages isn't there, it first waits until those are installed that can be.
@@ -74,8 +74,22 @@ class Run:
             self.verdicts[name] = verdict.Verdict(name, word, " ".join(missing))
             return
         with self.stops.held():
-            self.jobs[name] = Job(command, self.work / name.replace("/", "-"), is_beside,
+            self.jobs[name] = Job(command, self.work / name.replace("/", "-"), nice,
                                   self.limit_sec if is_limited else None)
+
+    def prepare(self, name, *command):
+        """Starts to make what a check needs, on processors that are idle, unless that was started,
+        or a package isn't there that all of the check needs.
+
+        The check itself must wait for it, make what is still missing, and report why it can't.
+        """
+        what = f"what {name} needs"
+        if what in self.begun:
+            return
+        self.begun.add(what)
+        if not packages.missing(name, is_needed_only=True):
+            with self.stops.held():
+                self.jobs[what] = Job(command, self.work / what, IDLE)
 
     def end(self, name, meanwhile=lambda: None):
         """Waits for a check, prints what it prints, and judges it.
