@@ -1,5 +1,5 @@
-# Builds the library for C and report (examples/c/report.c) from the assembler text in release/, and
-# on x86-64 tkcore and tkrun. It needs a C compiler, binutils and bash, and no Rattle.
+# Builds the library for C, report (examples/c/report.c) and tkcore from the assembler text in
+# release/, and on x86-64 tkrun. It needs a C compiler, binutils and bash, and no Rattle.
 #
 #     make                  makes dist/
 #     make check            tests what is in dist/, with the programs that are installed
