@@ -167,6 +167,17 @@ class Make(Case):
         text = (TOP / "tools/check_c").read_text(encoding="utf-8")
         parts = re.search(r"parts=\(([a-z ]+)\)", text)[1].split()
         self.assertEqual(["check_run", *(f"check_c-{it}" for it in parts)], PARTS)
+        makefile = (TOP / "Makefile").read_text(encoding="utf-8")
+        self.assertEqual(parts, re.search(r"^PARTS = (.*)$", makefile, re.M)[1].split())
+
+    def test_each_check_of_the_library_is_called(self):
+        text = (TOP / "tools/check_c").read_text(encoding="utf-8")
+        code = re.sub(r"^\s*#.*$", "", text, flags=re.M)
+        names = re.findall(r"^(check_\w+)\(\)", code, re.M)
+        self.assertGreater(len(names), 30)
+        called = re.findall(r"\b(check_\w+)\b(?!\(\)|:)", code)
+        for name in sorted(set(names) - {f"check_{it}" for it in ("llvm", "rattle")}):
+            self.assertIn(name, called)
 
     def test_without_the_program_the_library_is_checked(self):
         self.make_library()
