@@ -45,7 +45,7 @@ $(PARTS:%=check-%): check-%:
 	tools/check_c --built dist $*
 
 check-run:
-	if [ -x dist/bin/tkrun ] && [ -x dist/bin/tkcore ]; then tools/check_run; fi
+	if [ -x dist/bin/tkrun ] && [ -x dist/bin/tkcore ]; then tools/check_run --built; fi
 
 texts:
 	@cd release && grep -E '^[0-9a-f]{64}  (x86_64|aarch64|wasm64|wasm32)/' MANIFEST | sha256sum -c --quiet 2>&- || \

@@ -3,9 +3,9 @@
     all.py [--all] [MODULE..]
 
 Without a module, it runs the quick ones, and with --all those of servers and 2,000 kills too. Each
-module runs in a process of its own, and one more of them at once than there are processors, since
-many tests wait. What they print is printed in the order of their names. No test is run twice: each
-holds on a busy machine too.
+module runs in a process of its own, and three of them at once for each processor, since most tests
+wait. What they print is printed in the order of their names. No test is run twice: each holds on a
+busy machine too.
 """
 import os
 import pathlib
@@ -15,7 +15,7 @@ import unittest
 from concurrent import futures
 
 FOLDER = pathlib.Path(__file__).parent
-MORE = 1  # modules that run at once, beyond the number of processors
+AT_ONCE = 3  # modules that run at once for each processor
 # the modules that take longest come first
 FIRST = ["test_kernel", "test_nodes", "test_waits", "test_masks", "test_python", "test_chrony",
          "test_check", "test_calls", "test_net_streams", "test_net_connections",
@@ -46,7 +46,7 @@ def main(names, are_all):
     first = LONG * are_all + FIRST
     rest = sorted(modules - set(LONG) - set(FIRST))
     is_well = True
-    with futures.ThreadPoolExecutor(len(os.sched_getaffinity(0)) + MORE) as pool:
+    with futures.ThreadPoolExecutor(AT_ONCE * len(os.sched_getaffinity(0))) as pool:
         ends = {name: pool.submit(run_apart, name) for name in first + rest}
         for name in sorted(ends):
             status, said = ends[name].result()
