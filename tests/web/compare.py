@@ -298,6 +298,8 @@ def main():
     found = answers(given, [script for script, _ in pairs], whose)
     drawn = [(script, some) for (script, _), (*_, some) in zip(pairs, found) if some]
     cursors = [cursor for _, some in drawn for cursor in some["cursors"]]
+    if 2 * len(cursors) < len(drawn):
+        sys.exit(f"{len(cursors)} cursors in {len(drawn)} scripts that are drawn: too few show times")
     plain = [(script, some["reads"], whose.get(script)) for script, some in drawn if is_plain(script)]
     if wrong := first_difference(pairs, found) or next(filter(None, [
             *(wrong_cursor(given, cursor) for cursor in cursors),
