@@ -1,5 +1,5 @@
-# Builds the library for C and report (examples/c/report.c) from the assembler text in release/, and
-# on x86-64 tkcore and tkrun. It needs a C compiler, binutils and bash, and no Rattle.
+# Builds the library for C, report (examples/c/report.c) and tkcore from the assembler text in
+# release/, and on x86-64 tkrun. It needs a C compiler, binutils and bash, and no Rattle.
 #
 #     make                  makes dist/
 #     make check            tests what is in dist/, with the programs that are installed
@@ -31,16 +31,21 @@ dist/bin/report: dist/lib/libtkcore.a $(REPORT)
 dist/bin/tkrun: dist/lib/libtkcore.a $(wildcard run/*/*)
 	tools/build_run
 
-# both halves run at once, and what each prints stays together
+# as many parts at once as there are processors, unless make was called with -j; what a part prints
+# stays together
+JOBS = $(if $(findstring jobserver,$(MAKEFLAGS)),,-j$(shell nproc))
+PARTS = calls pages orders uses definitions
+
 check: texts all
 	@echo "make: tests what is in dist/, and prints it at the end"
-	+@$(MAKE) --no-print-directory -j2 --output-sync=target check-library check-run
+	+@$(MAKE) --no-print-directory --keep-going --output-sync=target $(JOBS) \
+	    check-run $(PARTS:%=check-%)
 
-check-library:
-	tools/check_c --built dist
+$(PARTS:%=check-%): check-%:
+	tools/check_c --built dist $*
 
 check-run:
-	if [ -x dist/bin/tkcore ]; then tools/check_run; fi
+	if [ -x dist/bin/tkrun ] && [ -x dist/bin/tkcore ]; then tools/check_run --built; fi
 
 texts:
 	@cd release && grep -E '^[0-9a-f]{64}  (x86_64|aarch64|wasm64|wasm32)/' MANIFEST | sha256sum -c --quiet 2>&- || \
@@ -53,4 +58,4 @@ install: all
 clean:
 	rm -rf dist
 
-.PHONY: all check check-library check-run texts install clean
+.PHONY: all check $(PARTS:%=check-%) check-run texts install clean

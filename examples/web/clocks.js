@@ -58,6 +58,11 @@ export class Clocks {
     /** Does what a read at a reading does before it reads: nothing. */
     look() {}
 
+    /** Returns how many seconds a discipline lets begin up to a reading. */
+    secondsUntil() {
+        return 0n;
+    }
+
     /** Carries out a record that is no read. */
     carryOut(word, values) {
         if (word === 'adjtimex')

@@ -14,6 +14,8 @@ export const DRAWN = ['monotonic', 'boottime', 'realtime', 'tai'];
 const CHANGES_MOST = 8192, READS_MOST = 5000, MARKS_MOST = 2000;
 const JUMP = 1000; // ns
 const MARGIN_MOST = 10n ** 11n; // ns
+/** More seconds than begin in this margin. Words may have a second that was due years ago. */
+export const SECONDS_MOST = 200n;
 
 /** The words of changes that leave each clock as it was, unless a leap second is among them. */
 const QUIET = new Set(['update', 'second']);
@@ -137,7 +139,7 @@ export class Curves {
         const part = this.end / 24n, margin = part < MARGIN_MOST ? part : MARGIN_MOST;
         const last = this.changes.at(-1), wanted = this.readingAt(last, this.end + margin + 1n);
         this.row++;
-        if (wanted !== null && !last.isAsleep)
+        if (wanted !== null && !last.isAsleep && clocks.secondsUntil(wanted) <= SECONDS_MOST)
             clocks.look(wanted);
         this.tail = this.tailOf(clocks, wanted ?? this.library.lastOf(clocks.snapshot));
         this.reach(this.tail.place);

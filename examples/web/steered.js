@@ -121,6 +121,10 @@ export class SteeredClocks extends Clocks {
             this.begin(reading);
     }
 
+    secondsUntil(reading) {
+        return this.othersAt(this.ntp, this.wordsOf(this.ntp), reading) + 1n;
+    }
+
     /** Lets each second up to a reading begin. Returns a code. */
     begin(reading) {
         for (let at = this.due(reading); at !== null; at = this.due(reading)) {

@@ -3,23 +3,25 @@
     all.py [--all] [MODULE..]
 
 Without a module, it runs the quick ones, and with --all those of servers and 2,000 kills too. Each
-module runs in a process of its own, and one more of them at once than there are processors, since
-many tests wait. What they print is printed in the order of their names. No test is run twice: each
-holds on a busy machine too.
+module runs in a process of its own, or each of its tests if they take long, and two processes at
+once for each processor, since most tests wait. What they print is printed in the order of their
+names. No test is run twice: each holds on a busy machine too.
 """
 import os
 import pathlib
+import re
 import subprocess
 import sys
 import unittest
 from concurrent import futures
 
 FOLDER = pathlib.Path(__file__).parent
-MORE = 1  # modules that run at once, beyond the number of processors
+AT_ONCE = 2  # processes that run at once for each processor
 # the modules that take longest come first
 FIRST = ["test_kernel", "test_nodes", "test_waits", "test_masks", "test_python", "test_chrony",
          "test_check", "test_calls", "test_net_streams", "test_net_connections",
          "test_net_datagrams"]
+APART = ["test_masks"]  # modules whose tests run in a process each
 LONG = ["test_many_kills", "test_postgresql", "test_redis", "test_nginx"]
 
 
@@ -39,6 +41,15 @@ def run_apart(name):
     return ran.returncode, f"{name}:\n{ran.stdout}"
 
 
+def parts_of(module):
+    """Returns the names of what runs in a process each: a module, or its tests."""
+    if module not in APART:
+        return [module]
+    text = (FOLDER / f"{module}.py").read_text(encoding="utf-8")
+    tested, = re.findall(r"^class (\w+)\(RunTest\):", text, re.M)
+    return [f"{module}.{tested}.{test}" for test in re.findall(r"^    def (test_\w+)\(", text, re.M)]
+
+
 def main(names, are_all):
     if names:
         return run(names)
@@ -46,8 +57,9 @@ def main(names, are_all):
     first = LONG * are_all + FIRST
     rest = sorted(modules - set(LONG) - set(FIRST))
     is_well = True
-    with futures.ThreadPoolExecutor(len(os.sched_getaffinity(0)) + MORE) as pool:
-        ends = {name: pool.submit(run_apart, name) for name in first + rest}
+    with futures.ThreadPoolExecutor(AT_ONCE * len(os.sched_getaffinity(0))) as pool:
+        ends = {name: pool.submit(run_apart, name) for module in first + rest
+                for name in parts_of(module)}
         for name in sorted(ends):
             status, said = ends[name].result()
             print(said, end="", flush=True)

@@ -40,6 +40,13 @@ class BuildRun(Case):
         archive.unlink()
         self.fails(f"{archive} isn't there; make assembles it, and tools/build_c proves it")
 
+    def test_help_is_printed_and_other_arguments_are_refused(self):
+        usage = "usage: tools/build_run [FOLDER]\n"
+        for word in "--help", "-h":
+            self.assertEqual((0, usage, ""), self.run_tool("tools/build_run", word))
+        for words in ["--all"], ["one", "two"]:
+            self.assertEqual((2, "", usage), self.run_tool("tools/build_run", *words))
+
 
 if __name__ == "__main__":
     unittest.main()

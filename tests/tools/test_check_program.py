@@ -33,6 +33,9 @@ class CheckProgram(Case):
         for name in CRATES:
             self.write(f"crates/tk_{name}_tests/out/tk_{name}_tests_tests", TESTS)
         self.write("tools/release", "exit 0")
+        self.write("tests/program/under_qemu", "echo all runs are the same")
+        for name in "aarch64-linux-gnu-gcc", "qemu-aarch64":
+            self.stand_in(name, "exit 0")
 
     def write(self, name, script):
         path = self.top / name
@@ -47,22 +50,37 @@ class CheckProgram(Case):
 
     def test_another_text_fails_the_check(self):
         libraries = self.room / "libraries"
-        is_asked = f'[ "$*" = "--keep {libraries} --compare-program" ]'
-        self.write("tools/release", f"{is_asked} || exit 3")
+        asked = f"--keep {libraries} --compare-program"
+        self.write("tools/release", f"""case $* in
+"{asked} x86_64" | "{asked} aarch64") ;;
+*) exit 3 ;;
+esac""")
         status, said = self.run_check("--libraries", str(libraries), "10")
         self.assertEqual(0, status, said)
-        self.assertIn("check_program: text: 1 lines, the last: release/ has the program's text\n", said)
         self.assertNotIn("left out: the program's text", said)
-        self.write("tools/release", f"{is_asked} && echo another text\nexit 1")
-        status, said = self.run_check("--libraries", str(libraries))
-        self.assertEqual(1, status, said)
-        self.assertIn("another text\ncheck_program: text FAILED\n", said)
+        for machine, part in ("x86_64", "text"), ("aarch64", "text_aarch64"):
+            self.assertIn(f"check_program: {part}: 1 lines, the last: release/ has the program's text "
+                          f"for {machine}\n", said)
+        for machine, part in ("x86_64", "text"), ("aarch64", "text_aarch64"):
+            self.write("tools/release",
+                       f'[ "$*" != "{asked} {machine}" ] || {{ echo another text; exit 1; }}')
+            status, said = self.run_check("--libraries", str(libraries))
+            self.assertEqual((1, 1), (status, said.count("FAILED")))
+            self.assertIn(f"another text\ncheck_program: {part} FAILED\n", said)
 
     def test_without_proved_libraries_the_text_is_left_out(self):
         self.write("tools/release", "exit 3")
         status, said = self.run_check()
         self.assertEqual(0, status, said)
-        self.assertIn("left out: the program's text in release/: no --libraries\n", said)
+        for machine in "x86_64", "aarch64":
+            self.assertIn(f"left out: the program's text for {machine}: no --libraries\n", said)
+
+    def test_another_outcome_on_aarch64_fails_the_check(self):
+        program = f"{self.top}/crates/tkcore/out/tkcore"
+        self.write("tests/program/under_qemu", f'[ "$*" != "{program}" ]')
+        status, said = self.run_check()
+        self.assertEqual(1, status, said)
+        self.assertIn("check_program: under_qemu FAILED\n", said)
 
     def test_other_arguments_are_refused(self):
         usage = "usage: tools/check_program [--libraries LIBRARIES] [SCRIPTS]\n"

@@ -9,6 +9,9 @@ import unittest
 from tools import TOP, Case
 
 SHARED = "libtkcore.so.0"
+# what `make check` runs
+PARTS = ["check_run", "check_c-calls", "check_c-pages", "check_c-orders", "check_c-uses",
+         "check_c-definitions"]
 CALLER = """#include <tkcore.h>
 int main(void) { return tkc_version() != 7; }
 """
@@ -113,41 +116,78 @@ class Make(Case):
         self.assertEqual((2, "x86_64/tkcore.s: FAILED\n"), (status, said))
         self.assertIn("make: a text in release/ isn't the one that release/MANIFEST lists\n", errors)
 
-    def check_halves(self, library, run):
-        """Runs `make check` with other checks, which wait for each other. Returns what it does."""
+    def write_check(self, name, script):
+        path = self.top / "tools" / name
+        path.write_text(f"#!/bin/bash\nname=$(basename $0)${{3:+-$3}}\n{script}\n", encoding="utf-8")
+        path.chmod(0o755)
+
+    def check_with(self, script, *words):
+        """Runs `make check` with a script for each part. Returns its status, what the parts print, and
+        the errors."""
         self.make_library()
         (self.top / "dist/bin/report").touch()
-        met = self.room / "met"
-        for name, status in (("check_c", library), ("check_run", run)):
-            path = self.top / "tools" / name
-            path.write_text(f"#!/bin/bash\necho {name} $*\n: >{met}.{name}\n"
-                            f"for ((i = 0; i < 30000; i++)); do\n"
-                            f"[ -e {met}.check_c ] && [ -e {met}.check_run ] && break\n"
-                            f"sleep 0.01\ndone\n[ $i = 30000 ] || echo {name} ends\n"
-                            f"exit {status}\n", encoding="utf-8")
-            path.chmod(0o755)
+        for name in "check_c", "check_run":
+            self.write_check(name, script)
+        (self.top / "dist/bin/tkrun").chmod(0o755)
         (self.top / "dist/bin/tkcore").write_text("#!/bin/sh\n", encoding="utf-8")
         (self.top / "dist/bin/tkcore").chmod(0o755)
-        status, said, errors = self.make("check")
-        self.assertEqual(["check_c --built dist\ncheck_c ends\n", "check_run\ncheck_run ends\n"],
-                         sorted(re.findall(r"(?:check_\w+.*\n){2}", said)))
-        for path in self.room.glob("met.*"):
-            path.unlink()
-        return status, errors
+        status, said, errors = self.make("check", *words)
+        return status, said.splitlines()[1:], errors
 
-    def test_both_halves_of_the_check_run_at_once(self):
-        self.assertEqual((0, ""), self.check_halves(0, 0))
-        for library, run in ((1, 0), (0, 1), (1, 1)):
-            status, errors = self.check_halves(library, run)
-            self.assertEqual(2, status)
-            self.assertIn("check-library] Error 1" if library else "check-run] Error 1", errors)
+    def test_as_many_parts_run_at_once_as_there_are_processors(self):
+        self.stand_in("nproc", f"echo {len(PARTS)}")
+        met = self.room / "met"
+        met.mkdir()
+        status, said, errors = self.check_with(
+            f"echo $name begins\n: >{met}/$name\n"
+            f"for ((i = 0; i < 30000; i++)); do\n[ $(ls {met} | wc -l) != {len(PARTS)} ] || break\n"
+            "sleep 0.01\ndone\n[ $i = 30000 ] || echo $name ends")
+        self.assertEqual((0, ""), (status, errors))
+        # (what each part prints stays together)
+        self.assertEqual([[f"{it} begins", f"{it} ends"] for it in sorted(PARTS)],
+                         sorted(said[i:i + 2] for i in range(0, len(said), 2)))
+
+    def test_no_more_parts_run_at_once_than_make_may(self):
+        self.stand_in("nproc", f"echo {len(PARTS)}")
+        for words, most in ([], len(PARTS)), (["-j2"], 2):
+            running = self.room / f"running{most}"
+            running.mkdir()
+            status, said, errors = self.check_with(
+                f": >{running}/$name\n[ $(ls {running} | wc -l) -le {most} ] || echo too many\n"
+                f"sleep 0.1\nrm {running}/$name\necho $name", *words)
+            self.assertEqual((0, sorted(PARTS), ""), (status, sorted(said), errors))
+
+    def test_each_part_is_run_and_one_that_fails_is_named(self):
+        for part in PARTS:
+            status, said, errors = self.check_with(f"echo $name\n[ $name != {part} ]")
+            self.assertEqual((2, sorted(PARTS)), (status, sorted(said)))
+            self.assertIn(f"{part.replace('_c-', '-').replace('_', '-')}] Error 1", errors)
+
+    def test_the_parts_are_those_of_the_library(self):
+        text = (TOP / "tools/check_c").read_text(encoding="utf-8")
+        parts = re.search(r"parts=\(([a-z ]+)\)", text)[1].split()
+        self.assertEqual(["check_run", *(f"check_c-{it}" for it in parts)], PARTS)
+        makefile = (TOP / "Makefile").read_text(encoding="utf-8")
+        self.assertEqual(parts, re.search(r"^PARTS = (.*)$", makefile, re.M)[1].split())
+
+    def test_each_check_of_the_library_is_called(self):
+        text = (TOP / "tools/check_c").read_text(encoding="utf-8")
+        code = re.sub(r"^\s*#.*$", "", text, flags=re.M)
+        names = re.findall(r"^(check_\w+)\(\)", code, re.M)
+        self.assertGreater(len(names), 30)
+        called = re.findall(r"\b(check_\w+)\b(?!\(\)|:)", code)
+        for name in sorted(set(names) - {f"check_{it}" for it in ("llvm", "rattle")}):
+            self.assertIn(name, called)
 
     def test_without_the_program_the_library_is_checked(self):
         self.make_library()
         (self.top / "dist/bin/report").touch()
-        (self.top / "tools/check_c").write_text("#!/bin/sh\necho $*\n", encoding="utf-8")
-        begin = "make: tests what is in dist/, and prints it at the end\n"
-        self.assertEqual((0, f"{begin}--built dist\n", ""), self.make("check"))
+        self.write_check("check_c", "echo $*")
+        status, said, errors = self.make("check", "-j1")
+        self.assertEqual((0, ""), (status, errors))
+        self.assertEqual(["make: tests what is in dist/, and prints it at the end",
+                          *sorted(f"--built dist {it.partition('-')[2]}" for it in PARTS[1:])],
+                         sorted(said.splitlines(), key=lambda it: (it.startswith("--"), it)))
 
     def test_a_function_that_the_header_lacks_is_found(self):
         self.text.write_text(text() + ".text\n.globl tkc_more\ntkc_more: ret\n", encoding="utf-8")

@@ -5,6 +5,7 @@ import importlib.util
 import io
 import pathlib
 import re
+import shutil
 import subprocess
 import sys
 import unittest
@@ -28,7 +29,8 @@ class Release(Case):
         self.folder.mkdir()
         self.enterContext(mock.patch.object(release, "RELEASE", self.folder))
         self.texts = {"library": {"x86_64/tkcore.s": b"one", "aarch64/tkcore.s": b"two"},
-                      "program": {"x86_64/program.s.gz": b"three"}}
+                      "program": {"x86_64/program.s.gz": b"three",
+                                  "aarch64/program.s.gz": b"four"}}
         self.enterContext(mock.patch.dict(making.PARTS, {
             name: lambda _, out, name=name: self.make(name, out) for name in self.texts}))
         self.enterContext(mock.patch.object(release.rattle, "require_logic"))
@@ -61,8 +63,8 @@ class Release(Case):
         parts = manifest.read(self.folder)
         self.assertEqual(["library", "program", "sources"], sorted(parts))
         self.assertEqual(["kit: one", "tk_c: logic=proved"], parts["program"][:2])
-        self.assertEqual(["aarch64/tkcore.s", "x86_64/program.s.gz", "x86_64/tkcore.s"],
-                         sorted(manifest.files(parts)))
+        self.assertEqual(["aarch64/program.s.gz", "aarch64/tkcore.s", "x86_64/program.s.gz",
+                          "x86_64/tkcore.s"], sorted(manifest.files(parts)))
 
     def test_the_same_release_is_verified(self):
         self.run_release("library", "program")
@@ -116,10 +118,11 @@ class Release(Case):
             self.assertIn(manifest.line_of(path, name), lines)
             self.assertIn(name, manifest.files(parts))
 
-    def stand_in_for_the_program(self, source):
+    def stand_in_for_the_program(self, source, machine="x86_64"):
         """Stands in for what proves and compiles the program, and writes its text in release/."""
         made, verdict = self.room / "tkcore.o", (0, "logic=proved functions=1\n")
-        subprocess.run(["gcc", "-O2", "-fPIC", "-x", "c", "-c", "-", "-o", made], input=source,
+        compiler = "gcc" if machine == "x86_64" else f"{machine}-linux-gnu-gcc"
+        subprocess.run([compiler, "-O2", "-fPIC", "-x", "c", "-c", "-", "-o", made], input=source,
                        text=True, check=True)
         self.enterContext(mock.patch.object(release.rattle, "build_all", return_value=True))
         self.enterContext(mock.patch.object(release.rattle, "kit", return_value=self.room))
@@ -127,28 +130,55 @@ class Release(Case):
         built.side_effect = lambda crate, command, libraries, *words: (
             pathlib.Path(words[-1].removeprefix("-o=")).write_bytes(made.read_bytes()) and verdict)
         text = making.release_text(made).decode()
-        self.write_program(gzip.compress(text.encode()))
+        self.write_program(gzip.compress(text.encode()), machine)
         return built, text
 
-    def write_program(self, packed):
-        path = self.folder / making.PROGRAM
+    def write_program(self, packed, machine="x86_64"):
+        path = self.folder / making.program_of(machine)
         path.parent.mkdir(exist_ok=True)
         path.write_bytes(packed)
         return path
 
-    def test_the_program_is_compared_with_its_text(self):
-        built, text = self.stand_in_for_the_program("int main(void) { return 71; }")
-        words = "--keep", str(self.room / "kept"), "--compare-program"
+    def check_compared_program(self, machine, cpu, number, *words):
+        """Compares a program with its text, and with one that has another number."""
+        built, text = self.stand_in_for_the_program("int main(void) { return 71; }", machine)
+        words = "--keep", str(self.room / "kept"), "--compare-program", *words
         self.assertEqual((0, "", ""), self.run_release(*words))
-        self.assertEqual(("tkcore", "build"), (built.call_args[0][0].name, built.call_args[0][1]))
-        self.assertIn("--cpu=x86-64", built.call_args[0])
-        self.assertEqual(1, text.count("$0x47"))
-        path = self.write_program(gzip.compress(text.replace("$0x47", "$0x48").encode()))
+        crate, command, _, *given = built.call_args[0]
+        self.assertEqual(("tkcore", "build"), (crate.name, command))
+        self.assertEqual([f"--target={machine}-unknown-linux-gnu", f"--cpu={cpu}"], given[1:3])
+        self.assertEqual(1, text.count(number))
+        other = number.replace("7", "8")
+        path = self.write_program(gzip.compress(text.replace(number, other).encode()), machine)
         status, said, errors = self.run_release(*words)
         why = (f"tools/release: {path} isn't the proved program's text: tools/release program makes "
                "it anew\n")
         self.assertEqual((1, "", why), (status, said, errors[:len(why)]))
         self.assertRegex(errors, r"\nsection \.text\S*: other bytes at 0x[0-9a-f]+\n\Z")
+
+    def test_the_program_is_compared_with_its_text(self):
+        self.check_compared_program("x86_64", "x86-64", "$0x47")
+
+    def test_the_processor_of_the_program_may_be_named(self):
+        self.check_compared_program("x86_64", "x86-64", "$0x47", "x86_64")
+
+    @unittest.skipUnless(shutil.which("aarch64-linux-gnu-gcc"), "nothing compiles for AArch64")
+    def test_the_program_for_aarch64_is_compared_with_its_text(self):
+        self.check_compared_program("aarch64", "generic", "#0x47", "aarch64")
+
+    def test_the_program_is_written_for_each_processor(self):
+        built, text = self.stand_in_for_the_program("int main(void) { return 71; }")
+        out = self.room / "out"
+        with mock.patch.object(making, "begun", return_value=["kit: one"]):
+            lines = making.program(self.room, out)
+        names = ["x86_64/program.s.gz", "aarch64/program.s.gz"]
+        self.assertEqual(["kit: one", *["tkcore: logic=proved functions=1"] * 2,
+                          *(manifest.line_of(out / it, it) for it in names)], lines)
+        self.assertEqual([text] * 2, [gzip.decompress((out / it).read_bytes()).decode()
+                                      for it in names])
+        self.assertEqual([["--target=x86_64-unknown-linux-gnu", "--cpu=x86-64"],
+                          ["--target=aarch64-unknown-linux-gnu", "--cpu=generic"]],
+                         [list(it[0][4:6]) for it in built.call_args_list])
 
     def test_many_differences_of_a_program_are_cut(self):
         _, text = self.stand_in_for_the_program("".join(f"int f{it}(void) {{ return 71; }}\n"
@@ -170,7 +200,8 @@ class Release(Case):
 
     def test_other_arguments_are_refused(self):
         for words in ([], ["all"], ["--verify", "library"], ["--compare", "dist", "riscv64"],
-                      ["--compare", "dist", "--verify"], ["--compare-program", "program"],
+                      ["--compare", "dist", "--verify"], ["--compare-program", "program"], ["--compare-program", "x86_64", "aarch64"],
+                      ["--verify", "x86_64"], ["--compare", "dist", "x86_64", "aarch64"],
                       ["--compare-program", "--verify"], ["--compare-sources", "library"],
                       ["--compare-sources", "--verify"],
                       ["--compare-program", "--compare", "dist"]):

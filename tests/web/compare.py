@@ -25,12 +25,17 @@ import model
 import readers
 
 DATA = TOP / "crates" / "tk_examples" / "data"
+SECONDS = 1800  # the longest that node may take for all scripts, on a busy machine
 OPEN = b"open,32,16777216,24,0,1700000000,0\n"
 # steered clocks whose mark is after the beginning of their next second, as no calls leave them
 MARKED = (b"openwords,32,3495253333,26,5,2597764268,3497000960,9033614093229567,29,1700000000865388708,0,0,"
           b"9000682596261628,29,15,10005,100,8225,2,1,1700006399,0,4,16000000,10000,10000,2147483648000000,"
           b"1700000031,0,0,1152921504607786901,16879380609053491200,1700000031,2632316711\n"
           b"get,2761501322,monotonic\nadjtimex,2773395570,0,0,0,0,0,0,0,0,0,0\n")
+# steered clocks without a record, whose next second was due 34 years ago: no second begins
+OVERDUE = (b"openwords,8,1600000000,4,4,194,1600660815,6401321630,2,1078185594637559651,0,0,6400000000,2,"
+           b"27067002,10000,100,1067712636,1,0,0,0,2,16000000,16000000,10000,1773863043072000,0,0,0,"
+           b"1152921504606846976,0,1024,194\n")
 STEERED = b"open,64,8388608,23,0,1483228797,0,250\n"
 # REALTIME goes back twice, and a read is recorded after a later one
 READS = OPEN + b"""get,1000000,realtime
@@ -55,6 +60,7 @@ EDGES = [
     *[READS] * 4,  # (each fourth script is drawn)
     *[MANY] * 4,
     *[PLACELESS] * 4,
+    *[OVERDUE] * 4,
     MARKED,
     # the greatest front, and one more
     *(MARKED.replace(b",5,2597764268", b",%d,2597764268" % front) for front in (2**62, 2**62 + 1)),
@@ -69,11 +75,15 @@ EDGES = [
 
 def answers(given, scripts, whose):
     """Returns the status, the output, the error and what is drawn of each script, or None. A script
-    may have the text of its readers."""
+    may have the text of its readers. A script without an end is named."""
     words = ["node", *given.node, str(TOP / "tests/web/reports.mjs"), given.module]
     lines = b"".join(b" ".join(map(base64.b64encode, (script, *whose.get(script, ())[:1]))) + b"\n"
                      for script in scripts)
-    ran = subprocess.run(words, input=lines, capture_output=True, check=False)
+    try:
+        ran = subprocess.run(words, input=lines, capture_output=True, check=False, timeout=SECONDS)
+    except subprocess.TimeoutExpired as late:
+        script = scripts[(late.stdout or b"").count(b"\n")]
+        sys.exit(f"{script[:2000].decode(errors='replace')}\n---\npage: no answer after {SECONDS} s")
     if ran.returncode:
         sys.exit(ran.stderr.decode())
     return [tuple(json.loads(line)) for line in ran.stdout.splitlines()]
@@ -288,6 +298,8 @@ def main():
     found = answers(given, [script for script, _ in pairs], whose)
     drawn = [(script, some) for (script, _), (*_, some) in zip(pairs, found) if some]
     cursors = [cursor for _, some in drawn for cursor in some["cursors"]]
+    if 2 * len(cursors) < len(drawn):
+        sys.exit(f"{len(cursors)} cursors in {len(drawn)} scripts that are drawn: too few show times")
     plain = [(script, some["reads"], whose.get(script)) for script, some in drawn if is_plain(script)]
     if wrong := first_difference(pairs, found) or next(filter(None, [
             *(wrong_cursor(given, cursor) for cursor in cursors),

@@ -4,14 +4,14 @@
  *
  *     node tests/web/reports.mjs MODULE <SCRIPTS
  *
- * A line of SCRIPTS is a script in base64, and after a space may be its readers. A line of the output is a list in JSON for it: the exit
- * status that tkcore would have, its output, its line of standard error, and for some scripts what
- * the page says of their reads, and what the cursor shows at some places. For each of these places
- * there is a script whose last lines are these reads.
+ * A line of SCRIPTS is a script in base64, and after a space may be its readers. A line of the output
+ * is a list in JSON for it: the exit status that tkcore would have, its output, its line of standard
+ * error, and for some scripts what the page says of their reads, and what the cursor shows at some
+ * places. For each of these places there is a script whose last lines are these reads.
  */
 import fs from 'node:fs';
 import readline from 'node:readline';
-import { Curves } from '../../examples/web/curves.js';
+import { Curves, SECONDS_MOST } from '../../examples/web/curves.js';
 import { Library } from '../../examples/web/library.js';
 import { Fault, recordsOf } from '../../examples/web/records.js';
 import { Readers } from '../../examples/web/readers.js';
@@ -45,10 +45,13 @@ function cursorAt(curves, records, first, place) {
         asked: Number(place), ahead: times.map(({ clock, ahead }) => [clock, ahead]) }];
 }
 
-/** Returns what the cursor shows. Drawing changes no line of the report, as every script shows. */
+/** Returns what the cursor shows. Drawing changes no line of the report, as every script shows. Where
+ * the next second was due long ago, a read in a script would let all seconds since then begin. */
 function cursorsOf(curves, script, bytes, first) {
     const records = [...recordsOf(bytes)].map(({ fields }) => fields.join(','));
-    const { end } = curves.finish(script.clocks);
+    const { end } = curves.finish(script.clocks), { snapshot } = script.clocks;
+    if (script.clocks.secondsUntil(script.library.lastOf(snapshot)) > SECONDS_MOST)
+        return [];
     return PLACES.flatMap(part =>
         cursorAt(curves, records, first, BigInt(Math.floor(end * part))));
 }

@@ -60,7 +60,8 @@ class Run:
     def start(self, name, *command, nice=0, is_limited=True):
         """Starts a check unless it was started, or a package isn't there that all of it needs.
 
-        If any of its packages isn't there, it first waits until those are installed that can be.
+        If any of its packages isn't there, it first waits until those are installed that can be. A
+        check that runs on idle processors alone may take twice the limit.
         """
         if name in self.begun:
             return
@@ -73,9 +74,9 @@ class Run:
             word = "failed" if is_fault else "left out"
             self.verdicts[name] = verdict.Verdict(name, word, " ".join(missing))
             return
+        limit = self.limit_sec * (2 if nice == IDLE else 1) if is_limited else None
         with self.stops.held():
-            self.jobs[name] = Job(command, self.work / name.replace("/", "-"), nice,
-                                  self.limit_sec if is_limited else None)
+            self.jobs[name] = Job(command, self.work / name.replace("/", "-"), nice, limit)
 
     def prepare(self, name, *command):
         """Starts to make what a check needs, on processors that are idle, unless that was started,

@@ -15,7 +15,8 @@ LINKING = ("c/module",)  # what shapes a module
 # the crate of each part, and the tools besides
 SOURCES = {"library": ("tk_c", TOOLS), "program": ("tkcore", TOOLS), "module": ("tk_c", LINKING)}
 COMPILERS = ("bin/rattle", "toolchain/bin/clang", "toolchain/bin/llvm-ar")
-PROGRAM = "x86_64/program.s.gz"
+# the first processor of each kind, so that the program needs no test of the processor
+FIRST = {"x86_64": "x86-64", "aarch64": "generic"}
 
 
 class Failed(Exception):
@@ -94,14 +95,18 @@ def library(libraries, out):
     return lines + texts
 
 
-def compiled_program(libraries, made):
-    """Proves and compiles the program into an object file. Returns the line of the verdict.
+def program_of(machine):
+    """Returns the name of the program's compressed text."""
+    return f"{machine}/program.s.gz"
 
-    It is compiled for the first x86-64, so that it needs no test of the processor.
-    """
+
+def compiled_program(libraries, machine, made):
+    """Proves and compiles the program for a machine into an object file. Returns the line of the
+    verdict."""
     crate = rattle.crates()["tkcore"]
     built = crate.run("build", libraries, f"--toolchain={rattle.kit() / 'toolchain'}",
-                      "--cpu=x86-64", f"-o={made}")
+                      f"--target={machine}-unknown-linux-gnu", f"--cpu={FIRST[machine]}",
+                      f"-o={made}")
     return verdict_of(crate, *built)
 
 
@@ -110,20 +115,22 @@ def release_text(*words):
 
 
 def program(libraries, out):
-    """Writes the program's text, compressed, and returns the lines of its part."""
+    """Writes the program's text for each machine, compressed, and returns the lines of its part."""
     crate = rattle.crates()["tkcore"]
-    lines = begun("program", libraries)
-    with tempfile.TemporaryDirectory() as room:
-        made = pathlib.Path(room, "tkcore.o")
-        lines.append(f"{crate.name}: {compiled_program(libraries, made)}")
-        text = release_text(made)
-    packed = out / PROGRAM
-    packed.parent.mkdir(parents=True, exist_ok=True)
-    packed.write_bytes(gzip.compress(text, 9, mtime=0))
-    return [*lines, manifest.line_of(packed, PROGRAM)]
+    lines, texts = begun("program", libraries), []
+    for machine in MACHINES:
+        with tempfile.TemporaryDirectory() as room:
+            made = pathlib.Path(room, "tkcore.o")
+            lines.append(f"{crate.name}: {compiled_program(libraries, machine, made)}")
+            text = release_text(made)
+        packed = out / program_of(machine)
+        packed.parent.mkdir(parents=True, exist_ok=True)
+        packed.write_bytes(gzip.compress(text, 9, mtime=0))
+        texts.append(manifest.line_of(packed, program_of(machine)))
+    return lines + texts
 
 
-def differences_of_program(libraries, packed):
+def differences_of_program(libraries, machine, packed):
     """Compiles the program, and compares it with what gas makes of its compressed text. Returns how
     they differ, or "".
     """
@@ -131,7 +138,7 @@ def differences_of_program(libraries, packed):
     with tempfile.TemporaryDirectory() as room:
         made, text = pathlib.Path(room, "tkcore.o"), pathlib.Path(room, "program.s")
         text.write_bytes(run("gzip", "-dc", packed))
-        compiled_program(libraries, made)
+        compiled_program(libraries, machine, made)
         try:
             release_text("--compare", made, text)
         except Failed as failed:
