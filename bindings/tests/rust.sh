@@ -35,7 +35,7 @@ tests_named() {
 # uses memory that isn't its own, or a value that was never written.
 check_rust_memory() {
     local name tests test
-    for name in ntp bad_input; do
+    for name in ntp ntp_refused bad_input; do
         tests=$(tests_named "$name")
         [ -n "$tests" ] || fail "the Rust test $name isn't built"
         for test in $tests; do
@@ -121,7 +121,7 @@ check_rust_sanitized() {
     # (the model has no discipline)
     for source in "$top"/bindings/rust/tests/*.rs; do
         name=$(basename "$source" .rs)
-        [ "$name" = ntp ] || tests+=(--test "$name")
+        [[ $name == ntp* ]] || tests+=(--test "$name")
     done
     host=$(rustc -vV | sed -n 's/^host: //p')
     runner=CARGO_TARGET_$(tr '[:lower:]-' '[:upper:]_' <<<"$host")_RUNNER

@@ -157,18 +157,18 @@ struct late_reading {
 	uint32_t code;
 };
 
-/* MONOTONIC reaches its limit at the reading 7 + 946080000 s, before the reading 2^60 up
+/* MONOTONIC reaches its limit at the reading 7 + 946080000 s, before the reading 2^60, up
  * to which the lag is accounted for. The test of the last command and that of the limit come
- * before that of the account. */
+ * before that of the account. The last reading is 2^63 + 7. */
 static const struct late_reading late_readings[] = {
 	{ 7, TKC_BEHIND },
 	{ 946079999999999999, TKC_BEHIND },
 	{ 946080000000000006, TKC_BEHIND },
 	{ 946080000000000007, TKC_RANGE },
-	{ (UINT64_C(1) << 60) - 1, TKC_RANGE },
-	{ UINT64_C(1) << 60, TKC_RANGE },
+	{ 1152921504606846975, TKC_RANGE },
+	{ 1152921504606846976, TKC_RANGE },
 	{ 6, TKC_BEHIND },
-	{ (UINT64_C(1) << 63) + 7, TKC_BEHIND },
+	{ 9223372036854775815U, TKC_BEHIND },
 };
 
 /* Returns the clocks of `steered` with readings of 64 bits, whose lag is accounted for up to

@@ -138,6 +138,32 @@ class Saved(unittest.TestCase):
         self.assertEqual((loaded.save(), loaded.counter), (self.clock.save(), self.clock.counter))
         self.assertEqual(pickled.save(), loaded.save())
 
+    def load(self, changes):
+        """Returns the saved clocks with these words changed."""
+        words = list(rows_of("worked_saved_ntp.c", "steered_words"))
+        for place, word in changes.items():
+            words[place] = word
+        return SteeredClock.load(words)
+
+    def refuse_all(self, clock, reading, code):
+        """No call at this reading is accepted, and none changes the clocks."""
+        before = clock.save()
+        for call in (lambda: clock.advance(reading), lambda: clock.advance_late(reading),
+                     lambda: clock.update(reading), lambda: clock.set_tick(reading, 9000),
+                     lambda: clock.adjtimex(reading, Timex(Mode.MAXERROR, maxerror=5))):
+            raises(self, code, call)
+            self.assertEqual(clock.save(), before)
+
+    def test_readings_before_the_last_account(self):
+        for reading, code in rows_of("worked_saved_ntp.c", "late_readings"):
+            self.refuse_all(self.load({10: 64, 32: 2**60}), reading, code)
+
+    def test_as_many_calls_as_are_counted(self):
+        clock = self.load({0: 2**63 - 2})
+        clock.advance_late(9)
+        for reading in (6, 9):
+            self.refuse_all(clock, reading, "FULL")
+
 
 class Arguments(unittest.TestCase):
     def setUp(self):

@@ -159,6 +159,26 @@ fn memory_that_is_not_aligned() {
     }
 }
 
+/// Memory of a byte too few contains a word less, so it has neither a page nor a latch.
+#[test]
+fn memory_of_each_size() {
+    let memory = [const { AtomicU64::new(0) }; PAGE_WORDS];
+    let clock = opened();
+    for size in 0..=8 * PAGE_WORDS {
+        // SAFETY: the memory has this many bytes, and is shared only atomically.
+        let words = unsafe { shared_words(memory.as_ptr().cast(), size) }.unwrap();
+        assert_eq!(words.len(), size / 8);
+        assert_eq!(Page::create(words, &clock).is_ok(), size == 8 * PAGE_WORDS);
+        assert_eq!(Page::attach(words).is_ok(), size == 8 * PAGE_WORDS);
+    }
+    for size in 8 * LATCH_WORDS - 8..=8 * LATCH_WORDS {
+        // SAFETY: as above.
+        let words = unsafe { shared_words(memory.as_ptr().cast(), size) }.unwrap();
+        assert_eq!(Latch::create(words, &clock.snapshot()).is_ok(), size == 8 * LATCH_WORDS);
+        assert_eq!(Latch::attach(words).is_ok(), size == 8 * LATCH_WORDS);
+    }
+}
+
 #[test]
 fn texts_name_the_value_and_its_range() {
     let ended = opened().snapshot().convert(ClockId::Tai, &mut [0; 2], &[1, 1 << 32]).unwrap_err();
