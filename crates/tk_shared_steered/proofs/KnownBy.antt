@@ -11,13 +11,14 @@ use Rattle.tk_latch.specs.Latch.{Learnt}
 use Rattle.tk_now.specs.Views.{Noticed}
 use Rattle.tk_ntp.specs.declared.leap.Leap.{Leap}
 use Rattle.tk_ntp.specs.declared.leap.Leap.TheVariants.{None as NoLeap, Insert, Delete}
+use Rattle.tk_ntp.specs.Advance.{leap_of_clock}
 use Rattle.tk_ntp.specs.Change.{frequency_command, tick_command}
 use Rattle.tk_shared.specs.Callers.{HasRead, IsKnownBy, IsRefused, Known}
-use Rattle.tk_shared.proofs.Informed.{known_by_trans, knows_as_much}
+use Rattle.tk_shared.proofs.Informed.{known_by_trans}
 use Rattle.tk_shared_steered.specs.declared.fault.SteeringFault.{SteeringFault}
 use Rattle.tk_shared_steered.specs.declared.fault.SteeringFault.TheVariants.{Refused, Foreign}
 use Rattle.tk_shared_steered.specs.Given.{IsNotGiven}
-use Rattle.tk_shared_steered.specs.Late.{AfterLeap, AfterTick, AfterUpdate, AtFirst, Begins, HasAdvancedLate, HasBegunLate, HasStopped, HasStoppedLate, HaveBegunLate, IsLeapMadeIf, IsNext, IsSet, IsSteered, IsUpdated, Lost, Still, Stops, change_for}
+use Rattle.tk_shared_steered.specs.Late.{AfterLeap, AfterTick, AfterUpdate, AtFirst, Begins, HasAdvancedLate, HasBegunLate, HasStopped, HasStoppedLate, HaveBegunLate, IsLeapMadeIf, IsNext, IsSet, IsSteered, IsUpdated, Lost, StaysAfterTick, StaysAt, StaysAtLeap, Still, Stops, change_for}
 use Rattle.tk_shared_steered.specs.Opened.{IsUnopened, Late, NotGiven, Unsound}
 use Rattle.tk_shared_steered.specs.Owner.{Owner}
 
@@ -81,7 +82,7 @@ module _ (old : Owner) where
   updated_known None new h = h.2.given.known
   updated_known (Some leap) new h = h.5.given.known
 
-  leapt_known : (leap : Option Leap) (new : Owner) → IsLeapMadeIf leap old new →
+  pub leapt_known : (leap : Option Leap) (new : Owner) → IsLeapMadeIf leap old new →
       IsKnownBy old.caller new.caller
   leapt_known None new h = same_known old.caller new.caller (ap (λ (o : Owner). o.caller) h)
   leapt_known (Some NoLeap) new h =
@@ -89,7 +90,7 @@ module _ (old : Owner) where
   leapt_known (Some Insert) new h = h.1.given.known
   leapt_known (Some Delete) new h = h.1.given.known
 
-steered_known : (old new : Owner) → IsSteered old new → IsKnownBy old.caller new.caller
+pub steered_known : (old new : Owner) → IsSteered old new → IsKnownBy old.caller new.caller
 steered_known old new h =
     known_by_trans old.caller h.0.caller new.caller
     (set_known old (tick_command (change_for old)) h.0 h.1)
@@ -102,6 +103,28 @@ begun_known begun old new h =
     (updated_known old h.leap h.updated h.update)
     (known_by_trans h.updated.caller h.leapt.caller new.caller
     (leapt_known h.updated h.leap h.leapt h.made) (steered_known h.leapt new h.steered))
+
+-- the commands of a rate, which may be missing or not given
+pub tried_known : (result : Result ⊤ SteeringFault) (cmd : Option Command) (old new : Owner) →
+    MatchResult result (λ _. IsSet cmd old new) (λ fault. StaysAt cmd fault old new) →
+    IsKnownBy old.caller new.caller
+tried_known (Ok done) cmd old new h = set_known old cmd new h
+tried_known (Err fault) cmd old new h =
+    not_given_known h.it fault old.caller new.caller h.stays.reason
+
+pub at_leap_known : (leap : Option Leap) (fault : SteeringFault) (old new : Owner) →
+    StaysAtLeap leap fault old new → IsKnownBy old.caller new.caller
+at_leap_known leap fault old new h =
+    not_given_known (leap_of_clock h.it old.clock.clock) fault old.caller new.caller h.stays.reason
+
+pub after_tick_known : (fault : SteeringFault) (old new : Owner) →
+    StaysAfterTick fault old new → IsKnownBy old.caller new.caller
+after_tick_known fault old new (inl h) =
+    not_given_known h.it fault old.caller new.caller h.stays.reason
+after_tick_known fault old new (inr h) =
+    known_by_trans old.caller h.0.caller new.caller
+    (set_known old (tick_command (change_for old)) h.0 h.1)
+    (not_given_known h.2.it fault h.0.caller new.caller h.2.stays.reason)
 
 -- the states between the commands
 next_known : (cmd : Command) (old last : Owner) → IsNext old cmd last →

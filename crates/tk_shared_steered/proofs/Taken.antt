@@ -1,5 +1,5 @@
 -- The owner's commands leave its clocks in step with the history, and fewer seconds that can begin.
-use Rattle.std.proofs.Common.{◌≡◌, ◌∙◌, refl, sym, ap, subst, ℕ, ◌<◌, length, true, Option, Some, None, arith}
+use Rattle.std.proofs.Common.{◌≡◌, ◌∙◌, refl, sym, ap, subst, ℕ, ◌<◌, length, true, Bool, Option, Some, None, arith}
 use Rattle.std.specs.Prelude.{⊤, is_some, Result, MatchOption}
 use Rattle.tk_clock.specs.declared.command.Command.{Command}
 use Rattle.tk_clock.specs.declared.command.Command.TheVariants.{Update}
@@ -19,7 +19,7 @@ use Rattle.tk_shared.specs.Callers.{Known}
 use Rattle.tk_shared_steered.specs.declared.fault.SteeringFault.{SteeringFault}
 use Rattle.tk_shared_steered.specs.declared.fault.SteeringFault.TheVariants.{Refused, Foreign}
 use Rattle.tk_shared_steered.specs.Given.{IsGiven, IsNotGiven}
-use Rattle.tk_shared_steered.specs.Late.{IsLeapMade, IsLeapMadeIf, IsUpdated, IsSet, IsSteered, IsTaken, Stays, StaysAtLeap, change_for}
+use Rattle.tk_shared_steered.specs.Late.{HasBegunLate, IsLeapMade, IsLeapMadeIf, IsUpdated, IsSet, IsSteered, IsTaken, Stays, StaysAtLeap, change_for}
 use Rattle.tk_shared_steered.specs.Owner.{IsFollowing, IsInStep, IsInStepIfKnown, Owner, owner_of}
 use Rattle.tk_shared_steered.proofs.Steps.{accepts, follows, no_earlier, runs_on}
 
@@ -182,3 +182,30 @@ pub made_some : (leap : Leap) (reading : ℕ) (old new : Owner) → (leap ≡ No
 made_some NoLeap reading old new other t = absurd (other refl)
 made_some Insert reading old new other t = (reading, t)
 made_some Delete reading old new other t = (reading, t)
+
+-- a second that was let begin leaves an owner that follows all that it has seen
+set_following : (cmd : Option Command) (old new : Owner) → IsFollowing old → IsSet cmd old new →
+    IsFollowing new
+set_following None old new following h = subst IsFollowing (sym h) following
+set_following (Some cmd) old new following h = sym h.1.count
+
+updated_following : (leap : Option Leap) (old new : Owner) → IsUpdated leap old new →
+    IsFollowing new
+updated_following None old new h = sym h.2.count
+updated_following (Some leap) old new h = sym h.5.count
+
+leapt_following : (leap : Option Leap) (old new : Owner) → IsFollowing old →
+    IsLeapMadeIf leap old new → IsFollowing new
+leapt_following None old new following h = subst IsFollowing (sym h) following
+leapt_following (Some NoLeap) old new following h = subst IsFollowing (sym h) following
+leapt_following (Some Insert) old new following h = sym h.1.count
+leapt_following (Some Delete) old new following h = sym h.1.count
+
+pub begun_following : (begun : Bool) (old new : Owner) → HasBegunLate begun old new →
+    IsFollowing new
+begun_following begun old new h =
+    let leapt = leapt_following h.leap h.updated h.leapt
+    (updated_following h.leap old h.updated h.update) h.made in
+    let change = change_for h.leapt in
+    let ticked = set_following (tick_command change) h.leapt h.steered.0 leapt h.steered.1 in
+    set_following (frequency_command change) h.steered.0 new ticked h.steered.2

@@ -1,5 +1,6 @@
 pub mod Errors
 pub mod Given
+pub mod Readings
 pub mod Owner
 pub mod Opened
 pub mod Asked

@@ -1,6 +1,7 @@
 //! Gives single commands by a caller.
-ghost use Rattle.std.specs.Prelude.{MatchResult};
+ghost use Rattle.std.specs.Prelude.{length, IfOk, MatchResult};
 ghost use Rattle.tk_shared_steered.specs.Given.{IsGiven, IsNotGiven};
+ghost use Rattle.tk_shared_steered.specs.Readings.{IsAtReading};
 
 use crate::fault::SteeringFault;
 use std::sync::Wait;
@@ -25,6 +26,8 @@ pub(crate) fn give<L: Named, C: Counter, R: Wait>(
     ensures answer { MatchResult result
         (λ reading. IsGiven cmd reading caller.old caller.new)
         (λ fault. IsNotGiven cmd fault caller.old caller.new) }
+    ensures reading { IfOk result (λ _.
+        IsAtReading C.answers_after caller.new (length caller.old.seen.entries)) }
 {
     let front = caller.front();
     let number = match keeper.command(rt, caller, cmd) {

@@ -9,8 +9,10 @@ use Rattle.tk_clock.proofs.Lists.{prefix_whole}
 use Rattle.tk_now.specs.declared.rule.Taken.{Taken}
 use Rattle.tk_now.specs.declared.rule.Answer.{Answer}
 use Rattle.tk_now.specs.Moments.{AreInLife}
+use Rattle.tk_page.specs.History.{Begins}
 use Rattle.tk_shared.specs.Callers.{Known, IsInformed, IsKnownBy}
-use Rattle.tk_shared.specs.NeverBack.{OpenNowNeverFalls, answer_seen}
+use Rattle.tk_shared.specs.NeverBack.{IsHonest, OpenNowNeverFalls, answer_seen}
+use Rattle.tk_shared.specs.Now.{KnowsMore}
 use Rattle.tk_shared.specs.Readings.{EndsAtReading}
 use Rattle.tk_shared.proofs.Between.{life_two}
 use Rattle.tk_shared.proofs.Calls.{informed_within, known_within, answered_of}
@@ -33,7 +35,7 @@ module _ {S : Type 0} (answers : S → ℕ → ℕ → Type 0) (counter : S) (on
     known' : IsKnownBy asked.after' last
     known' = known_by_trans asked.after' two last asked.known' known_two
 
-    in_life : AreInLife last.noticed.commands (first ∷ second ∷ [])
+    pub in_life : AreInLife last.noticed.commands (first ∷ second ∷ [])
     in_life =
         let commands = last.noticed.commands in
         let log = last.noticed.log in
@@ -68,16 +70,22 @@ module _ {S : Type 0} (answers : S → ℕ → ℕ → Type 0) (counter : S) (on
         subst (λ (p : Journal × List Taken). EndsAtReading after p.0 p.1)
         (λ i. (same i, commands i)) ends
 
+    -- the later answer isn't smaller, if the counter was honest
+    pub ordered : IsHonest last.seen last.noticed.commands first second →
+        OpenNowNeverFalls answers → nanoseconds time ≤ℤ nanoseconds time'
+    ordered honest law =
+        law last informed counter counter asked.before asked.after asked.before' asked.after' time time'
+        first second known known' (inl (asked.seen, refl)) (inl (asked.seen', refl))
+        (inr (inl asked.handed.log)) honest
+
     pub rises : {C : Type 0} (after : C → ℕ → ℕ → Type 0) → length last.seen.entries ≡ 1 →
         HasCommanded after one → IsTrusted after answers counter last.seen.opening →
         OpenNowNeverFalls answers → nanoseconds time ≤ℤ nanoseconds time'
     rises after all gave trusted law =
-        law last informed counter counter asked.before asked.after asked.before' asked.after' time time'
-        first second known known' (inl (asked.seen, refl)) (inl (asked.seen', refl))
-        (inr (inl asked.handed.log))
+        ordered
         (trusted last.seen last.noticed.commands first second refl all informed.readings
         informed.order (only_command after all gave) asked.seen.timed.given asked.seen'.timed.given
-        in_life)
+        in_life) law
 
 -- more is known at the end
 pub asked_later : {S : Type 0} (answers : S → ℕ → ℕ → Type 0) (counter : S)
@@ -94,4 +102,15 @@ asked_later answers counter one two one' two' time time' asked known known' = re
   handed = asked.handed;
   known = known_by_trans asked.after one one' asked.known known;
   known' = known_by_trans asked.after' two two' asked.known' known';
+}
+
+-- a call of `now` leaves what the caller knows
+pub now_known : (old new : Known) → Begins old.seen new.seen → KnowsMore old new →
+    new.folded ≡ old.folded → IsKnownBy old new
+now_known old new seen more folded = record {
+  seen = seen;
+  learnt = more.0;
+  commands = more.1;
+  log = more.2;
+  folded = omega (arith, folded);
 }

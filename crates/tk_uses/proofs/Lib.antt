@@ -1,3 +1,4 @@
 pub mod InTurn
 pub mod Stopped
 pub mod Newcomers
+pub mod Risen

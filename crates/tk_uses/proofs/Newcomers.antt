@@ -28,6 +28,14 @@ module _ (start : Start) where
       (slice_get-push rest one) in
       seen_at n (length rest) one first
 
+  -- and so has the last
+  pub seen_last : (n : ℕ) (rest : List Known) (one : Known) →
+      newcomers start.latch start.notice start.journal n ≡ rest ++ one ∷ [] →
+      one.seen ≡ start.journal
+  seen_last n rest one is =
+      seen_at n (length rest) one
+      (ap (λ (l : List Known). slice_get l (length rest)) is ∙ slice_get-push rest one)
+
 -- a caller sees the clocks as they were opened, if one that saw them so gave a command and was
 -- followed
 pub opened_as : (one first commanded other follower later : Known) →

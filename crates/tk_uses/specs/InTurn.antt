@@ -11,8 +11,8 @@ use Rattle.tk_shared.specs.Callers.{Known, IsInformed, IsKnownBy}
 use Rattle.tk_shared.specs.NeverBack.{HasSeen, IsHonest}
 use Rattle.tk_shared.specs.Readings.{EndsAtReading}
 
--- one caller got this time of MONOTONIC, and then the other one got that time. Before it asked, the
--- other one knew all that the first one knew
+-- one caller got this time of MONOTONIC, and then the other one, which may be the same, got that
+-- time. Before it asked, the other one knew all that the first one knew
 pub record HaveAsked {S : Type 0} (answers : S → ℕ → ℕ → Type 0) (counter : S) (one two : Known)
     (time time' : Timespec) : Type 0 where
   pub before : Known

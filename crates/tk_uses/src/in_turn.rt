@@ -1,7 +1,8 @@
 //! Two threads ask for MONOTONIC, with a command between them: the later answer isn't smaller. The
 //! keeper stays open.
-ghost use Rattle.std.specs.Prelude.{◌≡◌, ◌≤ℤ◌, IfOk, IfSome};
+ghost use Rattle.std.specs.Prelude.{◌≡◌, ◌%◌, ◌^◌, ◌≤ℤ◌, IfOk, IfSome};
 ghost use Rattle.tk_clock.specs.Time.{nanoseconds};
+ghost use Rattle.tk_shared.specs.Callers.{IsKnownBy};
 ghost use Rattle.tk_shared.specs.NeverBack.{HasSeen};
 ghost use Rattle.tk_shared.specs.Opening.{IsNamed};
 ghost use Rattle.tk_uses.specs.InTurn.{HasCommanded, HaveAsked, HaveRisen, IsTrusted};
@@ -21,7 +22,7 @@ use tk_shared::{
 
 /// A stopped counter: each reading is `READING`.
 #[derive(Drop)]
-struct Stopped<const READING: u64>;
+pub(crate) struct Stopped<const READING: u64>;
 
 impl<const READING: u64> SharedCounter for Stopped<READING> {
     ghost use Rattle.std.specs.Prelude.{◌≡◌};
@@ -35,9 +36,9 @@ impl<const READING: u64> SharedCounter for Stopped<READING> {
 
 /// A caller, and the time that it got.
 #[derive(Drop)]
-struct Asked<L: Named> {
-    caller: Caller<L>,
-    time: Timespec,
+pub(crate) struct Asked<L: Named> {
+    pub(crate) caller: Caller<L>,
+    pub(crate) time: Timespec,
 }
 
 /// Opens clocks on a stopped counter for two callers, and prints their times.
@@ -64,17 +65,30 @@ fn rises<R: Threads + Wait + Sync>(
 ) -> Result<Option<(Timespec, Timespec)>, Stop>
     ensures { IfOk result (λ times. IfSome times (λ t. nanoseconds t.0 ≤ℤ nanoseconds t.1)) }
 {
+    let prepared = prepared(rt, alloc, stopped, 2)?;
+    in_turn::<Brand, _, _, _>(rt, alloc, prepared, stopped)
+}
+
+/// Prepares clocks on a stopped counter for this number of callers.
+pub(crate) fn prepared<'c, R: Wait>(
+    rt: &R,
+    alloc: Global,
+    stopped: &'c Stopped<1_000_000>,
+    callers: usize,
+) -> Result<Prepared<SharedReader<'c, Stopped<1_000_000>>>, Stop>
+    ensures opened { IfOk result (λ prepared. let opening = prepared.journal.opening in
+        opening.reading ≡ 1000000 % 2 ^ opening.counter.bits) }
+{
     let desc = CounterDesc::from_hz(32, 1_000_000, 600)?;
     let real = Timespec {
         sec: 1_700_000_000,
         nsec: 0,
     };
     let counter = SharedReader::new(alloc, stopped)?;
-    let prepared = match prepare(alloc, rt, desc, real, counter, 2, 0) {
-        Ok(prepared) => prepared,
-        Err(fault) => return Err(Stop::Open(fault.error)),
-    };
-    in_turn::<Brand, _, _, _>(rt, alloc, prepared, stopped)
+    match prepare(alloc, rt, desc, real, counter, callers, 0) {
+        Ok(prepared) => Ok(prepared),
+        Err(fault) => Err(Stop::Open(fault.error)),
+    }
 }
 
 /// Opens what was prepared, and returns MONOTONIC before a command and after it, of two threads.
@@ -123,7 +137,7 @@ fn both_ask<L: Named + Send + Sync, C: Counter, S: SharedCounter + Sync, R: Thre
 }
 
 /// Asks for MONOTONIC.
-fn ask<L: Named, C: Counter, S: SharedCounter, R: Wait>(
+pub(crate) fn ask<L: Named, C: Counter, S: SharedCounter, R: Wait>(
     rt: &R,
     keeper: &SharedKeeper<L, C>,
     caller: Caller<L>,
@@ -132,6 +146,8 @@ fn ask<L: Named, C: Counter, S: SharedCounter, R: Wait>(
     ensures asked { IfOk result (λ asked.
         HasSeen S.answers counter.now caller asked.caller asked.time) }
     ensures opening { IfOk result (λ asked. asked.caller.seen.opening ≡ caller.seen.opening) }
+    // the caller knows all that it knew
+    ensures known { IfOk result (λ asked. IsKnownBy caller asked.caller) }
 {
     let mut caller = caller;
     let time = keeper.now(rt, &mut caller, counter, ClockId::Monotonic)?;

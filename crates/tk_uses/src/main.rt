@@ -4,6 +4,7 @@
 
 mod in_turn;
 mod numbers;
+mod steered;
 mod stop;
 mod threads;
 
@@ -33,7 +34,8 @@ fn main(rt: HostRuntime) -> Result<(), Stop> {
     sleep(&rt, &mut keeper)?;
     fold(&rt, &mut keeper)?;
     threads::run(&rt, rt.alloc())?;
-    in_turn::run(&rt, rt.alloc())
+    in_turn::run(&rt, rt.alloc())?;
+    steered::run(&rt, rt.alloc())
 }
 
 /// Opens the clocks of a counter with 1 microsecond a cycle and 32-bit readings. At the reading 0

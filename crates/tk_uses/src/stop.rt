@@ -5,6 +5,7 @@ use tk_clock::{ReadError, Refusal};
 use tk_counter::DescError;
 use tk_keeper::FrontError;
 use tk_shared::OpenError;
+use tk_shared_steered::SteeringFault;
 
 /// States why the program stops early.
 #[derive(Debug, Drop, Error)]
@@ -20,6 +21,8 @@ pub(crate) enum Stop {
     Front(#[from] FrontError),
     #[error("the clocks can't be opened for threads: {0}")]
     Open(OpenError),
+    #[error("a discipline stopped: {0}")]
+    Steering(#[from] SteeringFault),
     #[error("a write failed: {0}")]
     Output(#[from] io::Error),
 }

@@ -7,6 +7,7 @@ ghost use Rattle.tk_ntp.specs.Followed.{seconds_left_after};
 ghost use Rattle.tk_shared.specs.Callers.{IsKnownBy};
 ghost use Rattle.tk_shared_steered.specs.Late.{HasAdvancedLate, HasBegunLate, HasStopped, HasStoppedLate, IsLeapMadeIf, IsSet, IsSteered, IsUpdated, Stays, StaysAfterTick, StaysAt, StaysAtLeap};
 ghost use Rattle.tk_shared_steered.specs.Owner.{IsFollowing};
+ghost use Rattle.tk_shared_steered.specs.Readings.{AreAtReadings};
 
 use super::SharedSteering;
 use crate::fault::SteeringFault;
@@ -33,6 +34,9 @@ impl<L: Named> SharedSteering<L> {
             (λ fault. HasStoppedLate fault self.old self.new) }
         // the caller knows all that it knew
         ensures known { IsKnownBy self.old.caller self.new.caller }
+        // each command that the discipline has followed since was given at a reading of the counter
+        ensures readings { AreAtReadings C.answers_after self.new.caller self.old.count
+            self.new.count }
     {
         'seconds: while self.begin_late(rt, keeper)? {}
         Ok(())
@@ -63,6 +67,9 @@ impl<L: Named> SharedSteering<L> {
             (λ fault. HasStopped fault self.old self.new) }
         // the caller knows all that it knew
         ensures known { IsKnownBy self.old.caller self.new.caller }
+        // each command that the discipline has followed since was given at a reading of the counter
+        ensures readings { AreAtReadings C.answers_after self.new.caller self.old.count
+            self.new.count }
         ensures fewer { IfOk result (λ begun. IsTrue begun →
             seconds_left self.new.clock < seconds_left self.old.clock) }
     {
@@ -86,6 +93,8 @@ impl<L: Named> SharedSteering<L> {
         ensures answer { MatchResult result
             (λ leap. IsUpdated leap self.old self.new)
             (λ fault. Stays Command.Update fault self.old self.new) }
+        ensures readings { AreAtReadings C.answers_after self.new.caller self.old.count
+            self.new.count }
         ensures known { IfOk result (λ _. IsFollowing self.new) }
         ensures next { IfOk result (λ leap. MatchOption leap (Unit {0})
             (λ _. (0 < self.new.clock.next) × (self.new.clock.next ≤ clock_end))) }
@@ -114,6 +123,8 @@ impl<L: Named> SharedSteering<L> {
         ensures answer { MatchResult result
             (λ _. IsLeapMadeIf leap self.old self.new)
             (λ fault. StaysAtLeap leap fault self.old self.new) }
+        ensures readings { AreAtReadings C.answers_after self.new.caller self.old.count
+            self.new.count }
         ensures known { IfOk result (λ _. IsFollowing self.new) }
     {
         let Some(leap) = leap else {
@@ -139,6 +150,8 @@ impl<L: Named> SharedSteering<L> {
         ensures answer { MatchResult result
             (λ _. IsSteered self.old self.new)
             (λ fault. StaysAfterTick fault self.old self.new) }
+        ensures readings { AreAtReadings C.answers_after self.new.caller self.old.count
+            self.new.count }
     {
         let change = self.course.needed_change(&self.clock);
         self.set(rt, keeper, change.tick_command())?;
@@ -157,6 +170,8 @@ impl<L: Named> SharedSteering<L> {
         ensures answer { MatchResult result
             (λ _. IsSet cmd self.old self.new)
             (λ fault. StaysAt cmd fault self.old self.new) }
+        ensures readings { AreAtReadings C.answers_after self.new.caller self.old.count
+            self.new.count }
         ensures known { IfOk result (λ _. IsFollowing self.new) }
     {
         let Some(cmd) = cmd else {

@@ -1,8 +1,9 @@
 //! Opens a discipline over the clocks of a shared keeper.
-ghost use Rattle.std.specs.Prelude.{◌≡◌, pos, MatchResult};
+ghost use Rattle.std.specs.Prelude.{◌≡◌, pos, IfOk, MatchResult};
 ghost use Rattle.tk_clock.specs.Time.{nanoseconds, timespec_of};
 ghost use Rattle.tk_shared.specs.Callers.{IsKnownBy};
 ghost use Rattle.tk_shared_steered.specs.Opened.{HasOpened, IsNotShown, IsShown, IsUnopened};
+ghost use Rattle.tk_shared_steered.specs.Readings.{AreAtReadings};
 
 use super::SharedSteering;
 use crate::fault::{SteeringFault, Unsteered};
@@ -39,6 +40,9 @@ impl<L: Named> SharedSteering<L> {
         ensures known { MatchResult result
             (λ owner. IsKnownBy caller owner.caller)
             (λ unsteered. IsKnownBy caller unsteered.caller) }
+        // the `Update` was given at a reading of the counter
+        ensures readings { IfOk result (λ owner.
+            AreAtReadings C.answers_after owner.caller 0 owner.count) }
     {
         let mut caller = caller;
         let now = keeper.read(rt, &mut caller);

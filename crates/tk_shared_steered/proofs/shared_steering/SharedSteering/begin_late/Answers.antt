@@ -1,4 +1,4 @@
-use Rattle.std.proofs.Common.{◌≡◌, refl, sym, subst, ◌∙◌, false, inl, inr, Option}
+use Rattle.std.proofs.Common.{◌≡◌, refl, sym, subst, ◌∙◌, ℕ, false, inl, inr, Option}
 use Rattle.std.proofs.lemmas.Result.{err_from_is_err_and}
 use Rattle.std.specs.Prelude.{Ok, Err}
 use Rattle.tk_clock.specs.declared.command.Command.TheVariants.{Update}
@@ -8,7 +8,9 @@ use Rattle.tk_shared_steered.specs.declared.fault.SteeringFault.{SteeringFault}
 use Rattle.tk_shared_steered.specs.declared.fault.SteeringFault.TheVariants.{Foreign}
 use Rattle.tk_shared_steered.specs.Late.{AfterLeap, AfterTick, AfterUpdate, AtFirst, HasStopped, IsLeapMadeIf, IsUpdated, Lost, StaysAfterTick, StaysAtLeap, Stops}
 use Rattle.tk_shared_steered.specs.Owner.{Owner, is_lost}
-use Rattle.tk_shared_steered.proofs.KnownBy.{late_known}
+use Rattle.tk_shared_steered.specs.Readings.{AreAtReadings}
+use Rattle.tk_shared_steered.proofs.Readings.{further_since, none_since}
+use Rattle.tk_shared_steered.proofs.KnownBy.{after_tick_known, at_leap_known, late_known, leapt_known, steered_known}
 use Rattle.tk_shared_steered.proofs.Taken.{fewer}
 use Rattle.tk_shared_steered.proofs.shared_steering.SharedSteering.begin_late.Goals as goal
 
@@ -129,3 +131,53 @@ returns-in_err-steer-clause-known g c =
 pub returns-clause-known : goal.returns-clause-known
 returns-clause-known g c =
     late_known (Ok c.is_some.result) c.args.self.now c.steer.new.self (returns-clause-answer g c)
+
+-- each command that was followed was given at a reading
+
+pub returns-then-is_lost-clause-readings : goal.returns-then-is_lost-clause-readings
+returns-then-is_lost-clause-readings g c =
+    let old = c.args.self.now in
+    none_since g.C.Counter.answers_after old.caller old.count old.count refl
+
+pub returns-in_err-leap-clause-readings : goal.returns-in_err-leap-clause-readings
+returns-in_err-leap-clause-readings g c = c.update.ensures.readings
+
+pub returns-in_err-make_leap-clause-readings : goal.returns-in_err-make_leap-clause-readings
+returns-in_err-make_leap-clause-readings g c =
+    let updated = c.update.new.self in
+    let new = c.make_leap.new.self in
+    further_since g.C.Counter.answers_after updated.caller new.caller c.args.self.now.count
+    updated.count new.count
+    (at_leap_known c.in_ok-leap.leap c.in_err-make_leap.field-0.0 updated new
+    c.in_err-make_leap.ensures.answer)
+    c.update.ensures.readings c.make_leap.ensures.readings
+
+leapt_since : {C : Type 0} (answers : C → ℕ → ℕ → Type 0) (leap : Option Leap)
+    (old updated leapt : Owner) → IsLeapMadeIf leap updated leapt →
+    AreAtReadings answers updated.caller old.count updated.count →
+    AreAtReadings answers leapt.caller updated.count leapt.count →
+    AreAtReadings answers leapt.caller old.count leapt.count
+leapt_since answers leap old updated leapt made early late =
+    further_since answers updated.caller leapt.caller old.count updated.count leapt.count
+    (leapt_known updated leap leapt made) early late
+
+pub returns-in_err-steer-clause-readings : goal.returns-in_err-steer-clause-readings
+returns-in_err-steer-clause-readings g c =
+    let leapt = c.make_leap.new.self in
+    let new = c.steer.new.self in
+    further_since g.C.Counter.answers_after leapt.caller new.caller c.args.self.now.count
+    leapt.count new.count
+    (after_tick_known c.in_err-steer.field-0.0 leapt new c.in_err-steer.ensures.answer)
+    (leapt_since g.C.Counter.answers_after c.in_ok-leap.leap c.args.self.now c.update.new.self leapt
+    c.in_ok-make_leap.ensures.answer c.update.ensures.readings c.make_leap.ensures.readings)
+    c.steer.ensures.readings
+
+pub returns-clause-readings : goal.returns-clause-readings
+returns-clause-readings g c =
+    let leapt = c.make_leap.new.self in
+    let new = c.steer.new.self in
+    further_since g.C.Counter.answers_after leapt.caller new.caller c.args.self.now.count
+    leapt.count new.count (steered_known leapt new c.in_ok-steer.ensures.answer)
+    (leapt_since g.C.Counter.answers_after c.in_ok-leap.leap c.args.self.now c.update.new.self leapt
+    c.in_ok-make_leap.ensures.answer c.update.ensures.readings c.make_leap.ensures.readings)
+    c.steer.ensures.readings

@@ -15,6 +15,7 @@ use Rattle.tk_ntp.proofs.Followed.{leapt_owed}
 use Rattle.tk_shared_steered.specs.Given.{IsGiven}
 use Rattle.tk_shared_steered.specs.Late.{IsLeapMade, IsTaken}
 use Rattle.tk_shared_steered.specs.Owner.{IsFollowing, IsInStep, Owner, owner_of}
+use Rattle.tk_shared_steered.proofs.Readings.{given_since, none_since, stays_since}
 use Rattle.tk_shared_steered.proofs.Steps.{no_earlier}
 use Rattle.tk_shared_steered.proofs.Taken.{in_step, made_none, made_some, stopped_at_leap, stopped_in_step, taken}
 use Rattle.tk_shared_steered.proofs.shared_steering.SharedSteering.make_leap.Given.{Over}
@@ -130,3 +131,26 @@ returns-clause-answer g c =
 
 pub returns-clause-known : goal.returns-clause-known
 returns-clause-known g c = sym c.front-self-inside.ensures
+
+pub returns-in_default-clause-readings : goal.returns-in_default-clause-readings
+returns-in_default-clause-readings g c =
+    let old = c.args.self.now in
+    none_since g.C.Counter.answers_after old.caller old.count old.count refl
+
+pub returns-then-eq-clause-readings : goal.returns-then-eq-clause-readings
+returns-then-eq-clause-readings g c =
+    let old = c.args.self.now in
+    none_since g.C.Counter.answers_after old.caller old.count old.count refl
+
+pub returns-in_err-reading-clause-readings : goal.returns-in_err-reading-clause-readings
+returns-in_err-reading-clause-readings g c =
+    let inside = c.self.inside in
+    stays_since g.C.Counter.answers_after
+    (owner_of inside.caller (seen inside.clock inside.course) inside.count) c.args.self.now
+    c.give.new.caller c.self.view_is
+
+pub returns-clause-readings : goal.returns-clause-readings
+returns-clause-readings g c =
+    given_since g.C.Counter.answers_after c.command-cmd.result c.in_ok-reading.reading (Here g c)
+    c.args.self.now c.give.new.caller c.front-self-inside.result c.self.view_is c.requires.known
+    c.in_ok-reading.ensures.answer c.front-self-inside.ensures c.in_ok-reading.ensures.reading

@@ -1,6 +1,7 @@
 use Rattle.std.proofs.Common.{sym}
 use Rattle.tk_ntp.specs.Course.{seen}
 use Rattle.tk_shared_steered.specs.Opened.{IsOpenedAs, NotGiven}
+use Rattle.tk_shared_steered.proofs.Readings.{opened_since}
 use Rattle.tk_shared_steered.proofs.KnownBy.{read_known, unopened_known}
 use Rattle.tk_shared_steered.proofs.Opened.{followed_from, open_in_step, opened_as, unshown}
 use Rattle.tk_shared_steered.proofs.shared_steering.SharedSteering.open.Given.{Over}
@@ -53,3 +54,11 @@ pub returns-in-Err-give-clause-known : goal.returns-in-Err-give-clause-known
 returns-in-Err-give-clause-known g c =
     unopened_known c.args.hz c.args.caller c.give.new.caller c.in-Err-give.fault
     (returns-in-Err-give-clause-answer g c)
+
+pub returns-in-Ok-give-clause-readings : goal.returns-in-Ok-give-clause-readings
+returns-in-Ok-give-clause-readings g c =
+    opened_since g.C.Counter.answers_after c.args.hz c.in-Ok-give.reading c.args.caller
+    c.read-now.new.caller c.give.new.caller
+    (seen c.follow_command-accepted.new.clock c.follow_command-accepted.new.self)
+    c.front-count.result (clocks g c) c.in-Ok-give.ensures.answer c.front-count.ensures
+    c.in-Ok-give.ensures.reading

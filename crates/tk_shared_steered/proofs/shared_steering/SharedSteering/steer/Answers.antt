@@ -8,6 +8,8 @@ use Rattle.tk_ntp.specs.Change.{frequency_command, tick_command}
 use Rattle.tk_shared_steered.specs.declared.fault.SteeringFault.{SteeringFault}
 use Rattle.tk_shared_steered.specs.Late.{IsSet, IsSteered, StaysAfterTick, StaysAt, change_for}
 use Rattle.tk_shared_steered.specs.Owner.{Owner, owner_of}
+use Rattle.tk_shared_steered.proofs.KnownBy.{tried_known}
+use Rattle.tk_shared_steered.proofs.Readings.{further_since}
 use Rattle.tk_shared_steered.proofs.Steps.{frequency_plain, tick_plain}
 use Rattle.tk_shared_steered.proofs.shared_steering.SharedSteering.steer.Goals as goal
 
@@ -38,16 +40,17 @@ stays_at_tick cmd change fault here old new tick is same h =
     inl (stays_as cmd (tick_command (change_for old)) fault old new
     (tick ∙ ap tick_command (is ∙ ap change_for same)) h)
 
-pub returns-in_err-set : goal.returns-in_err-set
-returns-in_err-set g c =
+pub returns-in_err-set-clause-answer : goal.returns-in_err-set-clause-answer
+returns-in_err-set-clause-answer g c =
     let inside = c.self.inside in
     let p = err_from_is_err_and c.from_residual.result c.from_residual.ensures.1 in
-    record {
-      answer = rw (p.1, p.2) (stays_at_tick c.tick_command.result c.needed_change-change.result
-          c.in_err-set.field-0.0 (owner_of inside.caller (seen inside.clock inside.course) inside.count)
-          c.args.self.now c.set.new.self c.tick_command.ensures
-          c.needed_change-change.ensures c.self.view_is c.in_err-set.ensures.answer);
-    }
+    rw (p.1, p.2) (stays_at_tick c.tick_command.result c.needed_change-change.result
+    c.in_err-set.field-0.0 (owner_of inside.caller (seen inside.clock inside.course) inside.count)
+    c.args.self.now c.set.new.self c.tick_command.ensures
+    c.needed_change-change.ensures c.self.view_is c.in_err-set.ensures.answer)
+
+pub returns-in_err-set-clause-readings : goal.returns-in_err-set-clause-readings
+returns-in_err-set-clause-readings g c = c.set.ensures.readings
 
 pub set-requires-2-clause-known : goal.set-requires-2-clause-known
 set-requires-2-clause-known g c κs within = c.in_ok-set.ensures.known
@@ -73,11 +76,18 @@ steered (Err fault) change first second old middle new is one two set h = inr (
       (two ∙ ap frequency_command is) h,
 )
 
-pub returns : goal.returns
-returns g c = record {
-  answer =
-      steered c.set-2.result c.needed_change-change.result c.tick_command.result
-      c.frequency_command.result c.args.self.now c.set.new.self c.set-2.new.self
-      (c.needed_change-change.ensures ∙ ap change_for c.self.view_is) c.tick_command.ensures
-      c.frequency_command.ensures c.in_ok-set.ensures.answer c.set-2.ensures.answer;
-}
+pub returns-clause-answer : goal.returns-clause-answer
+returns-clause-answer g c =
+    steered c.set-2.result c.needed_change-change.result c.tick_command.result
+    c.frequency_command.result c.args.self.now c.set.new.self c.set-2.new.self
+    (c.needed_change-change.ensures ∙ ap change_for c.self.view_is) c.tick_command.ensures
+    c.frequency_command.ensures c.in_ok-set.ensures.answer c.set-2.ensures.answer
+
+pub returns-clause-readings : goal.returns-clause-readings
+returns-clause-readings g c =
+    let ticked = c.set.new.self in
+    let new = c.set-2.new.self in
+    further_since g.C.Counter.answers_after ticked.caller new.caller c.args.self.now.count
+    ticked.count new.count
+    (tried_known c.set-2.result c.frequency_command.result ticked new c.set-2.ensures.answer)
+    c.set.ensures.readings c.set-2.ensures.readings

@@ -11,6 +11,7 @@ use Rattle.tk_ntp.specs.SteeredClock.{SteeredClock}
 use Rattle.tk_ntp.proofs.Followed.{followed_owed}
 use Rattle.tk_shared_steered.specs.Late.{IsTaken, IsUpdated}
 use Rattle.tk_shared_steered.specs.Owner.{IsFollowing, IsInStep, Owner, owner_of}
+use Rattle.tk_shared_steered.proofs.Readings.{given_since, stays_since}
 use Rattle.tk_shared_steered.proofs.Taken.{in_step, same_clock, stopped, stopped_in_step, taken, update_order, updated}
 use Rattle.tk_shared_steered.proofs.shared_steering.SharedSteering.update.Given.{Over}
 use Rattle.tk_shared_steered.proofs.shared_steering.SharedSteering.update.Goals as goal
@@ -102,3 +103,16 @@ returns-clause-fewer g c =
     (subst (λ (n : SteeredClock). MatchOption c.begin_alone-leap.result (Unit {0})
     (λ leap. seconds_left_after leap n < seconds_left (seen c.self.inside.clock c.self.inside.course)))
     (sym (given g c).clock) c.begin_alone-leap.ensures.fewer)
+
+pub returns-in_err-reading-clause-readings : goal.returns-in_err-reading-clause-readings
+returns-in_err-reading-clause-readings g c =
+    let inside = c.self.inside in
+    stays_since g.C.Counter.answers_after
+    (owner_of inside.caller (seen inside.clock inside.course) inside.count) c.args.self.now
+    c.give.new.caller c.self.view_is
+
+pub returns-clause-readings : goal.returns-clause-readings
+returns-clause-readings g c =
+    given_since g.C.Counter.answers_after Update c.in_ok-reading.reading (Here g c) c.args.self.now
+    c.give.new.caller c.front-self-inside.result c.self.view_is c.requires.known
+    c.in_ok-reading.ensures.answer c.front-self-inside.ensures c.in_ok-reading.ensures.reading
