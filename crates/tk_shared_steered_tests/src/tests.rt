@@ -10,7 +10,7 @@ use std::fmt::Debug;
 use std::process::Abort;
 use std::sync::Wait;
 use std::test::Fail;
-use tk_clock::Timespec;
+use tk_clock::{Snapshot, Timespec};
 use tk_counter::CounterDesc;
 use tk_ntp::Timex;
 use tk_shared::{Caller, Counter, Named, Prepared, SharedKeeper, prepare};
@@ -54,31 +54,29 @@ fn opened<L: Named, C: Counter>(
     }
 }
 
-/// Opens a discipline whose owner is this caller.
+/// Opens a discipline whose owner is the last caller of a list, and removes the caller from it.
 fn steered<L: Named, C: Counter, R: Wait>(
     rt: &R,
     keeper: &SharedKeeper<L, C>,
-    caller: Caller<L>,
+    callers: &mut Vec<Caller<L>>,
 ) -> Result<SharedSteering<L>, Fail> {
-    match SharedSteering::open(rt, keeper, caller, 250) {
+    let owner = callers.pop().ok_or("a caller")?;
+    match SharedSteering::open(rt, keeper, owner, 250) {
         Ok(steering) => Ok(steering),
         Err(_) => Err(Fail::from("no discipline")),
     }
 }
 
-/// Asks for a frequency of 33 ppm, and for an inserted second as the day ends.
-fn announce<L: Named>(steering: &mut SharedSteering<L>) -> Result<(), Fail> {
+/// Asks for a frequency of 33 ppm, and for an inserted second as the day ends. Returns whether the
+/// discipline has answered.
+fn announce<L: Named>(steering: &mut SharedSteering<L>) -> bool {
     let request = Timex {
         modes: 0x12,
         freq: 33 * 65_536 + 7,
         status: 0x10,
         ..Timex::default()
     };
-    if request.is_faulty() {
-        return Err(Fail::from("a fault"));
-    }
-    let _ = steering.ask(&request).or(Err("an answer"))?;
-    Ok(())
+    !request.is_faulty() && steering.ask(&request).is_ok()
 }
 
 /// Lets the next second begin late, if it is due. Tests need nothing of its contract.
@@ -97,4 +95,13 @@ fn advanced<L: Named, C: Counter, R: Wait>(
     steering: &mut SharedSteering<L>,
 ) -> Result<(), SteeringFault> {
     steering.advance_late(rt, keeper)
+}
+
+/// Makes a read, in the same way.
+fn read_by<L: Named, C: Counter, R: Wait>(
+    rt: &R,
+    keeper: &SharedKeeper<L, C>,
+    caller: &mut Caller<L>,
+) -> Snapshot {
+    keeper.read(rt, caller)
 }

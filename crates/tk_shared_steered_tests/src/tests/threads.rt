@@ -52,12 +52,12 @@ impl Board {
 fn owns<L: Named, C: Counter, R: Wait>(
     rt: &R,
     keeper: &SharedKeeper<L, C>,
-    mut steering: SharedSteering<L>,
+    steering: &mut SharedSteering<L>,
     board: &Board,
 ) -> u64 {
     let mut seconds = 0u64;
     for _ in rt.forever() {
-        match begins(rt, keeper, &mut steering) {
+        match begins(rt, keeper, steering) {
             Ok(true) => seconds = seconds.wrapping_add(1),
             Ok(false) => thread::yield_now(),
             Err(_) => {
@@ -77,16 +77,16 @@ fn owns<L: Named, C: Counter, R: Wait>(
 fn reads<L: Named, C: Counter, R: Wait>(
     rt: &R,
     keeper: &SharedKeeper<L, C>,
-    mut caller: Caller<L>,
+    caller: &mut Caller<L>,
     board: &Board,
 ) {
     for _ in rt.forever() {
         if board.ended.load(Ordering::SeqCst) != 0 {
             break;
         }
-        asks(rt, keeper, &mut caller, board);
-        board.tests(keeper.read(rt, &mut caller));
-        if let Ok(snapshot) = keeper.fast_read(&mut caller) {
+        asks(rt, keeper, caller, board);
+        board.tests(keeper.read(rt, caller));
+        if let Ok(snapshot) = keeper.fast_read(caller) {
             board.tests(snapshot);
         }
     }
@@ -125,11 +125,6 @@ fn readers_see_no_time_fall_and_no_tai_leap(rt: HostRuntime) -> Result<(), Fail>
     all_act::<Brand, _, _>(&rt, rt.alloc(), &board, prepared)
 }
 
-/// The last callers of a list.
-fn last_three<L: Named>(mut callers: Vec<Caller<L>>) -> Option<(Caller<L>, Caller<L>, Caller<L>)> {
-    Some((callers.pop()?, callers.pop()?, callers.pop()?))
-}
-
 fn all_act<L: Named + Send + Sync, C: Counter, R: Threads + Wait + Abort + Sync>(
     rt: &R,
     alloc: Global,
@@ -138,22 +133,43 @@ fn all_act<L: Named + Send + Sync, C: Counter, R: Threads + Wait + Abort + Sync>
 ) -> Result<(), Fail>
     requires named { IsNamed prepared L.page L.latch L.notice L.name L.parts L.callers }
 {
-    let (keeper, callers) = opened::<L, C>(alloc, prepared)?;
-    let (one, two, three) = last_three(callers).ok_or("three callers")?;
-    let mut steering = steered(rt, &keeper, one)?;
-    announce(&mut steering)?;
-    let keeper = &keeper;
+    let (keeper, mut callers) = opened::<L, C>(alloc, prepared)?;
+    three_act(rt, &keeper, &mut callers, board)
+}
+
+/// Lets the owner act while the other two callers read.
+fn three_act<L: Named + Send + Sync, C: Counter, R: Threads + Wait + Abort + Sync>(
+    rt: &R,
+    keeper: &SharedKeeper<L, C>,
+    callers: &mut Vec<Caller<L>>,
+    board: &Board,
+) -> Result<(), Fail> {
+    let mut steering = steered(rt, keeper, callers)?;
+    assert_same(rt, &announce(&mut steering), &true);
+    let owner = &mut steering;
     let (seconds, _) = thread::join(
         rt,
-        move || owns(rt, keeper, steering, board),
-        move || {
-            thread::join(
-                rt,
-                move || reads(rt, keeper, two, board),
-                move || reads(rt, keeper, three, board),
-            )
-        },
+        move || owns(rt, keeper, owner, board),
+        move || both_read(rt, keeper, callers, board),
     );
     assert_same(rt, &(seconds, board.times.faults()), &(SECONDS, 0));
     Ok(())
+}
+
+/// Lets two callers read at once.
+fn both_read<L: Named + Send + Sync, C: Counter, R: Threads + Wait + Sync>(
+    rt: &R,
+    keeper: &SharedKeeper<L, C>,
+    callers: &mut Vec<Caller<L>>,
+    board: &Board,
+) {
+    let (Some(mut one), Some(mut two)) = (callers.pop(), callers.pop()) else {
+        board.times.fail();
+        return;
+    };
+    let _ = thread::join(
+        rt,
+        move || reads(rt, keeper, &mut one, board),
+        move || reads(rt, keeper, &mut two, board),
+    );
 }
