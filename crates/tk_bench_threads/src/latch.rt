@@ -48,8 +48,11 @@ fn timed_reads<R: Hours>(
 /// Times reads while nobody publishes. Returns `None` if a call fails.
 pub fn quiet<R: Hours>(rt: &R, alloc: Global, effort: Effort) -> Option<Turn> {
     let (latch, mut desk, mut reader) = LatchDesk::open(alloc)?;
-    desk.update(&latch)?;
-    timed_reads(rt, &latch, &mut reader, 0, effort.of(READS))
+    if desk.update(&latch) {
+        timed_reads(rt, &latch, &mut reader, 0, effort.of(READS))
+    } else {
+        None
+    }
 }
 
 /// Publishes a thousand times a second until `enough` is set.
@@ -57,7 +60,7 @@ fn publishes_slowly<R: Hours>(rt: &R, latch: &Latch, desk: &mut LatchDesk, enoug
     requires { desk.old.latch ≡ latch.now }
 {
     for _ in 0..PUBLICATIONS {
-        if enough.load(Ordering::SeqCst) || desk.update(latch).is_none() {
+        if enough.load(Ordering::SeqCst) || !desk.update(latch) {
             return;
         }
         thread::sleep(rt, Duration::from_millis(1));
@@ -77,24 +80,42 @@ pub fn beside<R: Threads + Hours + Sync>(rt: &R, alloc: Global, effort: Effort) 
     )
 }
 
-/// Updates and publishes `count` times.
-fn publications(latch: &Latch, desk: &mut LatchDesk, count: u64) -> Option<()>
+/// Updates and publishes `count` times. Returns whether nothing is refused.
+fn publications(latch: &Latch, desk: &mut LatchDesk, count: u64) -> bool
     requires { desk.old.latch ≡ latch.now }
 {
     for _ in 0..count {
-        desk.update(latch)?;
+        if !desk.update(latch) {
+            return false;
+        }
     }
-    Some(())
+    true
 }
 
 /// Times updates of clocks with their publications. Returns `None` if a call fails.
 pub fn publishing<R: Hours>(rt: &R, alloc: Global, effort: Effort) -> Option<Turn> {
     let (latch, mut desk, mut reader) = LatchDesk::open(alloc)?;
-    let count = effort.of(PUBLICATIONS);
+    timed_publications(rt, &latch, &mut desk, &mut reader, effort.of(PUBLICATIONS))
+}
+
+/// Times `count` updates with their publications, and reads the last one. Returns `None` if a call
+/// fails.
+fn timed_publications<R: Hours>(
+    rt: &R,
+    latch: &Latch,
+    desk: &mut LatchDesk,
+    reader: &mut LatchReader,
+    count: u64,
+) -> Option<Turn>
+    requires desk { desk.old.latch ≡ latch.now }
+    requires reader { reader.old.latch ≡ latch.now }
+{
     let start = Instant::now(rt).ok()?;
-    publications(&latch, &mut desk, count)?;
+    if !publications(latch, desk, count) {
+        return None;
+    }
     let time = start.elapsed(rt).ok()?;
-    let read = reads(&latch, &mut reader, 0, 1);
+    let read = reads(latch, reader, 0, 1);
     let check = read.wrapping_mul(31).wrapping_add(reader.mark());
     Some(Turn { time, count, check })
 }

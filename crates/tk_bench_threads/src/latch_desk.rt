@@ -47,16 +47,27 @@ impl LatchDesk {
         Some((latch, desk, reader))
     }
 
-    /// Updates the clocks, a step after the last update, and publishes them. Returns `None` if the
-    /// update or the publication is refused.
-    pub fn update(&mut self, latch: &Latch) -> Option<()>
+    /// Updates the clocks, a step after the last update, and publishes them. Returns whether neither
+    /// the update nor the publication is refused.
+    pub fn update(&mut self, latch: &Latch) -> bool
         requires latch { self.old.latch ≡ latch.now }
         ensures latch { self.new.latch ≡ self.old.latch }
     {
-        let front = self.front.checked_add(1)?;
-        self.clock.apply(reading_of(front), Command::Update).ok()?;
-        self.writer.publish(latch, self.clock.snapshot(front)).ok()?;
-        self.front = front;
-        Some(())
+        let Some(front) = self.front.checked_add(1) else {
+            return false;
+        };
+        if self
+            .clock
+            .apply(reading_of(front), Command::Update)
+            .is_err()
+        {
+            return false;
+        }
+        let snapshot = self.clock.snapshot(front);
+        let is_published = self.writer.publish(latch, snapshot).is_ok();
+        if is_published {
+            self.front = front;
+        }
+        is_published
     }
 }

@@ -16,15 +16,14 @@ const READS: u64 = 10_000_000;
 
 const PUBLICATIONS: u64 = 1_000_000;
 
-/// Updates the clocks, a step after the last update, and publishes them. Returns `None` if the
-/// update is refused.
-fn update<R: Wait>(rt: &R, page: &Page, desk: &mut PageDesk) -> Option<()>
+/// Updates the clocks, a step after the last update, and publishes them. Returns whether the update
+/// is accepted.
+fn update<R: Wait>(rt: &R, page: &Page, desk: &mut PageDesk) -> bool
     requires { desk.old.page ≡ page.now }
     ensures { desk.new.page ≡ desk.old.page }
 {
     let reading = reading_of(desk.front().wrapping_add(1));
-    desk.command(rt, page, reading, Command::Update).ok()?;
-    Some(())
+    desk.command(rt, page, reading, Command::Update).is_ok()
 }
 
 /// Reads `count` times, and returns the sum of the weights.
@@ -54,8 +53,11 @@ fn timed_reads<R: Wait + Hours>(
 /// Times reads while nobody publishes. Returns `None` if a call fails.
 pub fn quiet<R: Wait + Hours>(rt: &R, alloc: Global, effort: Effort) -> Option<Turn> {
     let (page, mut desk, mut viewer) = opened_page(rt, alloc)?;
-    update(rt, &page, &mut desk)?;
-    timed_reads(rt, &page, &mut viewer, effort.of(READS))
+    if update(rt, &page, &mut desk) {
+        timed_reads(rt, &page, &mut viewer, effort.of(READS))
+    } else {
+        None
+    }
 }
 
 /// Publishes a thousand times a second until `enough` is set.
@@ -63,7 +65,7 @@ fn publishes_slowly<R: Wait + Hours>(rt: &R, page: &Page, desk: &mut PageDesk, e
     requires { desk.old.page ≡ page.now }
 {
     for _ in 0..PUBLICATIONS {
-        if enough.load(Ordering::SeqCst) || update(rt, page, desk).is_none() {
+        if enough.load(Ordering::SeqCst) || !update(rt, page, desk) {
             return;
         }
         thread::sleep(rt, Duration::from_millis(1));
@@ -86,24 +88,42 @@ pub fn beside<R: Threads + Wait + Hours + Sync>(
     )
 }
 
-/// Updates and publishes `count` times.
-fn publications<R: Wait>(rt: &R, page: &Page, desk: &mut PageDesk, count: u64) -> Option<()>
+/// Updates and publishes `count` times. Returns whether all updates are accepted.
+fn publications<R: Wait>(rt: &R, page: &Page, desk: &mut PageDesk, count: u64) -> bool
     requires { desk.old.page ≡ page.now }
 {
     for _ in 0..count {
-        update(rt, page, desk)?;
+        if !update(rt, page, desk) {
+            return false;
+        }
     }
-    Some(())
+    true
 }
 
 /// Times updates of clocks with their publications. Returns `None` if a call fails.
 pub fn publishing<R: Wait + Hours>(rt: &R, alloc: Global, effort: Effort) -> Option<Turn> {
     let (page, mut desk, mut viewer) = opened_page(rt, alloc)?;
-    let count = effort.of(PUBLICATIONS);
+    timed_publications(rt, &page, &mut desk, &mut viewer, effort.of(PUBLICATIONS))
+}
+
+/// Times `count` updates with their publications, and reads the last one. Returns `None` if a call
+/// fails.
+fn timed_publications<R: Wait + Hours>(
+    rt: &R,
+    page: &Page,
+    desk: &mut PageDesk,
+    viewer: &mut Viewer,
+    count: u64,
+) -> Option<Turn>
+    requires desk { desk.old.page ≡ page.now }
+    requires viewer { viewer.old.page ≡ page.now }
+{
     let start = Instant::now(rt).ok()?;
-    publications(rt, &page, &mut desk, count)?;
+    if !publications(rt, page, desk, count) {
+        return None;
+    }
     let time = start.elapsed(rt).ok()?;
-    let read = reads(rt, &page, &mut viewer, 1);
+    let read = reads(rt, page, viewer, 1);
     let check = read.wrapping_mul(31).wrapping_add(viewer.front());
     Some(Turn { time, count, check })
 }

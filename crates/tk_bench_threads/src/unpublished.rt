@@ -13,7 +13,9 @@ const UPDATES_LIMIT: u64 = 1_000_000;
 fn updates(clock: &mut Clock, count: u64) -> Option<u64> {
     let mut sum = 0u64;
     for number in 1..=count {
-        clock.apply(reading_of(number), Command::Update).ok()?;
+        if clock.apply(reading_of(number), Command::Update).is_err() {
+            return None;
+        }
         sum = sum.wrapping_add(weight(&clock.snapshot(number)));
     }
     Some(sum)

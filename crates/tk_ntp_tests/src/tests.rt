@@ -1,6 +1,6 @@
 //! Runs worked requests whose replies the kernel's own ntp.c gave, with HZ 250.
+use std::fmt::Debug;
 use std::process::Abort;
-use std::test::Fail;
 use tk_clock::Timespec;
 use tk_counter::CounterDesc;
 use tk_ntp::{Discipline, Leap, Reply, SteeredClock, TimeState, Timex};
@@ -17,7 +17,7 @@ mod requests;
 mod uptimes;
 
 /// A discipline at a second of REALTIME.
-#[derive(Drop)]
+#[derive(Clone, Copy)]
 struct Clock {
     ntp: Discipline,
     sec: u32,
@@ -26,19 +26,19 @@ struct Clock {
 
 impl Clock {
     /// Makes a fresh discipline with `hz` 250 at a second.
-    fn new(sec: u32) -> Result<Clock, Fail> {
-        Ok(Clock {
-            ntp: Discipline::new(250).ok_or("250 is in range")?,
+    fn new(rt: &impl Abort, sec: u32) -> Clock {
+        Clock {
+            ntp: Discipline::new(250).expect(rt, "250 is in range"),
             sec,
             tai: 0,
-        })
+        }
     }
 
     /// Makes a discipline whose PLL follows an offset in nanoseconds since a part of this second.
-    fn following(offset: i64) -> Result<Clock, Fail> {
-        let mut clock = Clock::new(1_700_000_000)?;
-        let _ = clock.reply(500_000_000, &pll(offset, 1))?;
-        Ok(clock)
+    fn following(rt: &impl Abort, offset: i64) -> Clock {
+        let mut clock = Clock::new(rt, 1_700_000_000);
+        let _ = clock.reply(rt, 500_000_000, &pll(offset, 1));
+        clock
     }
 
     /// Lets the seconds after the present one begin, up to `sec`.
@@ -73,8 +73,9 @@ impl Clock {
     }
 
     /// Returns the reply to a request that is not refused.
-    fn reply(&mut self, nsec: u32, request: &Timex) -> Result<Reply, Fail> {
-        Ok(self.ask(nsec, request).ok_or("the request has no fault")?)
+    fn reply(&mut self, rt: &impl Abort, nsec: u32, request: &Timex) -> Reply {
+        self.ask(nsec, request)
+            .expect(rt, "the request has no fault")
     }
 
     /// Checks the reply to a request that is not refused. It has no TAI offset.
@@ -85,26 +86,31 @@ impl Clock {
         request: &Timex,
         state: TimeState,
         timex: Timex,
-    ) -> Result<(), Fail> {
+    ) {
         let expected = Reply {
             state,
             tai: 0,
             timex,
         };
-        assert_eq!(rt; self.reply(nsec, request)?, expected);
-        Ok(())
+        assert_same(rt, &self.reply(rt, nsec, request), &expected);
     }
 }
 
 /// Makes a counter of 1 GHz.
-fn nanosecond_counter() -> Result<CounterDesc, Fail> {
-    Ok(CounterDesc::new(64, 8_388_608, 23).or(Err("a counter of 1 GHz"))?)
+fn nanosecond_counter(rt: &impl Abort) -> CounterDesc {
+    CounterDesc::new(64, 8_388_608, 23).expect(rt, "a counter of 1 GHz")
 }
 
 /// Opens steered clocks at the reading 0, as this second of REALTIME begins.
-fn opened_at(desc: CounterDesc, sec: i64) -> Result<SteeredClock, Fail> {
+fn opened_at(rt: &impl Abort, desc: CounterDesc, sec: i64) -> SteeredClock {
     let real = Timespec { sec, nsec: 0 };
-    Ok(SteeredClock::open(desc, 0, real, 250).or(Err("a time of REALTIME"))?)
+    SteeredClock::open(desc, 0, real, 250).expect(rt, "a time of REALTIME")
+}
+
+/// Stops the test if `found` is not equal to `wanted`. It is a separate call to keep the proof of
+/// each test short.
+fn assert_same<T: PartialEq + Debug>(rt: &impl Abort, found: &T, wanted: &T) {
+    assert_eq!(rt; found, wanted);
 }
 
 /// Returns a request that gives nothing but its modes.

@@ -1,7 +1,6 @@
 //! The lag of steered clocks.
-use super::{opened_at, pll, request};
+use super::{assert_same, opened_at, pll, request};
 use std::process::Abort;
-use std::test::Fail;
 use tk_clock::Command;
 use tk_counter::CounterDesc;
 use tk_ntp::{SteeredClock, Timex};
@@ -76,44 +75,41 @@ fn request_at(place: u64) -> Timex {
 }
 
 /// Calls clocks at a reading: mostly by a request, which may change the length of the second.
-fn call(steered: &mut SteeredClock, reading: u64, place: u64) -> Result<(), Fail> {
+fn call(rt: &impl Abort, steered: &mut SteeredClock, reading: u64, place: u64) {
     match place % 5 {
-        0 => steered.advance(reading).or(Err("an advance"))?,
+        0 => steered.advance(reading).expect(rt, "an advance"),
         1 => steered
             .apply(reading, Command::Update)
-            .or(Err("an update"))?,
+            .expect(rt, "an update"),
         _ => {
             let _ = steered
                 .adjtimex(reading, &request_at(place))
-                .or(Err("a request"))?;
+                .expect(rt, "a request");
         }
     }
-    Ok(())
 }
 
 /// Calls the clocks of a case at random readings, and checks their lag after each call.
-fn run(rt: &impl Abort, case: &Case) -> Result<(), Fail> {
-    let desc = CounterDesc::new(64, case.mult, case.shift).or(Err("a counter"))?;
-    let mut steered = opened_at(desc, 1_700_000_000)?;
+fn run(rt: &impl Abort, case: &Case) {
+    let desc = CounterDesc::new(64, case.mult, case.shift).expect(rt, "a counter");
+    let mut steered = opened_at(rt, desc, 1_700_000_000);
     let mut reading = 0u64;
     for place in 0..CALLS {
         let part = case.second.wrapping_mul(random(place)) >> 19;
         reading = reading.wrapping_add(part);
-        call(&mut steered, reading, place)?;
+        call(rt, &mut steered, reading, place);
         let high = steered.numbers().steering.lag.high;
-        assert_eq!(rt;
-            case.least <= high && high <= case.greatest,
-            true,
-            "{place}"
+        assert_same(
+            rt,
+            &(place, case.least <= high && high <= case.greatest),
+            &(place, true),
         );
     }
-    Ok(())
 }
 
 #[test]
-fn the_lag_stays_small_while_lengths_stay_in_range(rt: HostRuntime) -> Result<(), Fail> {
+fn the_lag_stays_small_while_lengths_stay_in_range(rt: HostRuntime) {
     for case in &CASES {
-        run(&rt, case)?;
+        run(&rt, case);
     }
-    Ok(())
 }

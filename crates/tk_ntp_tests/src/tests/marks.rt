@@ -1,77 +1,68 @@
 //! Where the last account may be, for clocks that are restored from their numbers. The counter has
 //! 64 bits and 1 GHz, so the second that begins next does so at the reading 10^9.
-use super::{nanosecond_counter, opened_at};
+use super::{assert_same, nanosecond_counter, opened_at};
 use std::process::Abort;
-use std::test::Fail;
 use tk_clock::{Clock, Command};
 use tk_ntp::{SteeredClock, SteeredNumbers};
 
 /// Returns steered clocks that were opened at the reading 0, a second before the one that begins
 /// next.
-fn opened() -> Result<SteeredClock, Fail> {
-    opened_at(nanosecond_counter()?, 1_700_000_000)
+fn opened(rt: &impl Abort) -> SteeredClock {
+    opened_at(rt, nanosecond_counter(rt), 1_700_000_000)
 }
 
 /// Checks whether clocks with their last account at a reading are where the laws want them.
-fn marks(
-    rt: &impl Abort,
-    clock: Clock,
-    numbers: SteeredNumbers,
-    mark: u64,
-    wanted: bool,
-) -> Result<(), Fail> {
+fn marks(rt: &impl Abort, clock: Clock, numbers: SteeredNumbers, mark: u64, wanted: bool) {
     let moved = SteeredNumbers { mark, ..numbers };
-    let restored = SteeredClock::from_numbers(clock, moved).or(Err("numbers in range"))?;
-    assert_eq!(rt; (mark, restored.is_marked()), (mark, wanted));
-    Ok(())
+    let restored = SteeredClock::from_numbers(clock, moved).expect(rt, "numbers in range");
+    assert_same(rt, &(mark, restored.is_marked()), &(mark, wanted));
 }
 
 #[test]
-fn the_last_account_is_not_after_the_next_second(rt: HostRuntime) -> Result<(), Fail> {
-    let steered = opened()?;
-    assert_eq!(rt; steered.is_marked(), true);
+fn the_last_account_is_not_after_the_next_second(rt: HostRuntime) {
+    let steered = opened(&rt);
+    assert_same(&rt, &steered.is_marked(), &true);
     let (clock, numbers) = (steered.clock(), steered.numbers());
     for mark in [0, 1, 999_999_999, 1_000_000_000] {
-        marks(&rt, clock, numbers, mark, true)?;
+        marks(&rt, clock, numbers, mark, true);
     }
     for mark in [1_000_000_001, 1 << 62, u64::MAX] {
-        marks(&rt, clock, numbers, mark, false)?;
+        marks(&rt, clock, numbers, mark, false);
     }
     let later = SteeredNumbers {
         next: 1_700_000_003,
         ..numbers
     };
-    marks(&rt, clock, later, 3_000_000_000, true)?;
-    marks(&rt, clock, later, 3_000_000_001, false)
+    marks(&rt, clock, later, 3_000_000_000, true);
+    marks(&rt, clock, later, 3_000_000_001, false);
 }
 
 #[test]
-fn a_second_that_is_never_reached_leaves_half_the_range(rt: HostRuntime) -> Result<(), Fail> {
-    let steered = opened()?;
+fn a_second_that_is_never_reached_leaves_half_the_range(rt: HostRuntime) {
+    let steered = opened(&rt);
     let never = SteeredNumbers {
         next: 9_223_372_037,
         ..steered.numbers()
     };
     let half = u64::MAX / 2;
-    marks(&rt, steered.clock(), never, half, true)?;
-    marks(&rt, steered.clock(), never, half + 1, false)
+    marks(&rt, steered.clock(), never, half, true);
+    marks(&rt, steered.clock(), never, half + 1, false);
 }
 
 #[test]
-fn the_last_account_of_sleeping_clocks_is_their_last_command(rt: HostRuntime) -> Result<(), Fail> {
-    let mut steered = opened()?;
-    assert_eq!(rt; steered.apply(500, Command::Suspend), Ok(()));
-    assert_eq!(rt; steered.is_marked(), true);
+fn the_last_account_of_sleeping_clocks_is_their_last_command(rt: HostRuntime) {
+    let mut steered = opened(&rt);
+    assert_same(&rt, &steered.apply(500, Command::Suspend), &Ok(()));
+    assert_same(&rt, &steered.is_marked(), &true);
     let (clock, numbers) = (steered.clock(), steered.numbers());
-    marks(&rt, clock, numbers, 499, false)?;
-    marks(&rt, clock, numbers, 501, false)
+    marks(&rt, clock, numbers, 499, false);
+    marks(&rt, clock, numbers, 501, false);
 }
 
 #[test]
-fn late_seconds_leave_it_where_it_may_be(rt: HostRuntime) -> Result<(), Fail> {
-    let mut steered = opened()?;
-    assert_eq!(rt; steered.advance_late(3_500_000_000), Ok(()));
-    assert_eq!(rt; steered.numbers().mark, 3_500_000_000);
-    assert_eq!(rt; steered.is_marked(), true);
-    Ok(())
+fn late_seconds_leave_it_where_it_may_be(rt: HostRuntime) {
+    let mut steered = opened(&rt);
+    assert_same(&rt, &steered.advance_late(3_500_000_000), &Ok(()));
+    assert_same(&rt, &steered.numbers().mark, &3_500_000_000);
+    assert_same(&rt, &steered.is_marked(), &true);
 }

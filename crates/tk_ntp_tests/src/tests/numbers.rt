@@ -1,7 +1,6 @@
 //! Steered clocks that are restored from their numbers.
-use super::{nanosecond_counter, pll, request};
+use super::{assert_same, nanosecond_counter, pll, request};
 use std::process::Abort;
-use std::test::Fail;
 use tk_clock::{Clock, Timespec};
 use tk_ntp::{
     DisciplineNumbers, LagNumbers, LeapNumbers, NumbersError, SteeredClock, SteeredNumbers,
@@ -76,9 +75,9 @@ fn lagging(high: u64, low: u64) -> SteeredNumbers {
 }
 
 /// Returns the clocks of a counter of 1 GHz, opened at the reading 9.
-fn clock() -> Result<Clock, Fail> {
-    let desc = nanosecond_counter()?;
-    Ok(Clock::open(desc, 9, OPENED).or(Err("a time of REALTIME"))?)
+fn clock(rt: &impl Abort) -> Clock {
+    let desc = nanosecond_counter(rt);
+    Clock::open(desc, 9, OPENED).expect(rt, "a time of REALTIME")
 }
 
 /// Lists the numbers with a sign: the offset, the frequency, the rest of `adjtime` and the phase.
@@ -117,40 +116,39 @@ fn long(numbers: &SteeredNumbers) -> [u64; 7] {
 }
 
 /// Stops the test if numbers differ.
-fn assert_same(rt: &impl Abort, found: &SteeredNumbers, wanted: &SteeredNumbers) {
-    assert_eq!(rt; signed(found), signed(wanted));
-    assert_eq!(rt; unsigned(found), unsigned(wanted));
-    assert_eq!(rt; long(found), long(wanted));
+fn assert_numbers(rt: &impl Abort, found: &SteeredNumbers, wanted: &SteeredNumbers) {
+    assert_same(rt, &signed(found), &signed(wanted));
+    assert_same(rt, &unsigned(found), &unsigned(wanted));
+    assert_same(rt, &long(found), &long(wanted));
 }
 
 /// Checks that clocks restored from numbers have these numbers.
-fn accepts(rt: &impl Abort, wanted: SteeredNumbers) -> Result<(), Fail> {
-    let restored = SteeredClock::from_numbers(clock()?, wanted).or(Err("numbers in range"))?;
-    assert_same(rt, &restored.numbers(), &wanted);
-    assert_eq!(rt;
-        restored.clock().snapshot(0).words(),
-        clock()?.snapshot(0).words()
+fn accepts(rt: &impl Abort, wanted: SteeredNumbers) {
+    let restored = SteeredClock::from_numbers(clock(rt), wanted).expect(rt, "numbers in range");
+    assert_numbers(rt, &restored.numbers(), &wanted);
+    assert_same(
+        rt,
+        &restored.clock().snapshot(0).words(),
+        &clock(rt).snapshot(0).words(),
     );
-    Ok(())
 }
 
 /// Checks that numbers are refused.
-fn refuses(rt: &impl Abort, numbers: SteeredNumbers, wanted: NumbersError) -> Result<(), Fail> {
-    let found = SteeredClock::from_numbers(clock()?, numbers).err();
-    assert_eq!(rt; found, Some(wanted));
-    Ok(())
+fn refuses(rt: &impl Abort, numbers: SteeredNumbers, wanted: NumbersError) {
+    let found = SteeredClock::from_numbers(clock(rt), numbers).err();
+    assert_same(rt, &found, &Some(wanted));
 }
 
 #[test]
-fn fresh_clocks_have_the_numbers_of_a_fresh_discipline(rt: HostRuntime) -> Result<(), Fail> {
-    let desc = nanosecond_counter()?;
-    let fresh = SteeredClock::open(desc, 9, OPENED, 250).or(Err("a time of REALTIME"))?;
-    assert_same(&rt, &fresh.numbers(), &numbers(FRESH));
-    accepts(&rt, numbers(FRESH))
+fn fresh_clocks_have_the_numbers_of_a_fresh_discipline(rt: HostRuntime) {
+    let desc = nanosecond_counter(&rt);
+    let fresh = SteeredClock::open(desc, 9, OPENED, 250).expect(&rt, "a time of REALTIME");
+    assert_numbers(&rt, &fresh.numbers(), &numbers(FRESH));
+    accepts(&rt, numbers(FRESH));
 }
 
 #[test]
-fn numbers_at_the_ends_of_their_ranges_are_accepted(rt: HostRuntime) -> Result<(), Fail> {
+fn numbers_at_the_ends_of_their_ranges_are_accepted(rt: HostRuntime) {
     let high = DisciplineNumbers {
         status: u32::MAX,
         offset: HALF,
@@ -162,7 +160,7 @@ fn numbers_at_the_ends_of_their_ranges_are_accepted(rt: HostRuntime) -> Result<(
         phase: HALF + MOST,
         ..FRESH
     };
-    accepts(&rt, numbers(high))?;
+    accepts(&rt, numbers(high));
     let low = DisciplineNumbers {
         status: 0,
         offset: -HALF,
@@ -175,106 +173,107 @@ fn numbers_at_the_ends_of_their_ranges_are_accepted(rt: HostRuntime) -> Result<(
         phase: -HALF - MOST,
         ..FRESH
     };
-    accepts(&rt, numbers(low))?;
+    accepts(&rt, numbers(low));
     for hz in [1, 1_024] {
-        accepts(&rt, numbers(DisciplineNumbers { hz, ..FRESH }))?;
+        accepts(&rt, numbers(DisciplineNumbers { hz, ..FRESH }));
     }
-    accepts(&rt, planned(4, 1, u64::MAX))?;
+    accepts(&rt, planned(4, 1, u64::MAX));
     // 2^123 in either direction, plus 2^124
-    accepts(&rt, lagging(1 << 59, 0))?;
-    accepts(&rt, lagging(3 << 59, 0))?;
+    accepts(&rt, lagging(1 << 59, 0));
+    accepts(&rt, lagging(3 << 59, 0));
     let latest = SteeredNumbers {
         next: 9_223_372_037,
         mark: u64::MAX,
         ..numbers(FRESH)
     };
-    accepts(&rt, latest)
+    accepts(&rt, latest);
 }
 
+/// Numbers of a discipline of which one is past its range.
+const PAST: [DisciplineNumbers; 15] = [
+    DisciplineNumbers { hz: 0, ..FRESH },
+    DisciplineNumbers { hz: 1_025, ..FRESH },
+    DisciplineNumbers {
+        offset: HALF + 1,
+        ..FRESH
+    },
+    DisciplineNumbers {
+        offset: -HALF - 1,
+        ..FRESH
+    },
+    DisciplineNumbers {
+        offset: i64::MIN,
+        ..FRESH
+    },
+    DisciplineNumbers {
+        constant: 11,
+        ..FRESH
+    },
+    DisciplineNumbers {
+        maxerror: 16_000_001,
+        ..FRESH
+    },
+    DisciplineNumbers {
+        esterror: 16_000_001,
+        ..FRESH
+    },
+    DisciplineNumbers {
+        tick: 8_999,
+        ..FRESH
+    },
+    DisciplineNumbers {
+        tick: 11_001,
+        ..FRESH
+    },
+    DisciplineNumbers {
+        frequency: (500_000 << 32) + 1,
+        ..FRESH
+    },
+    DisciplineNumbers {
+        frequency: -(500_000 << 32) - 1,
+        ..FRESH
+    },
+    DisciplineNumbers {
+        reftime: 1 << 63,
+        ..FRESH
+    },
+    DisciplineNumbers {
+        phase: HALF + MOST + 1,
+        ..FRESH
+    },
+    DisciplineNumbers {
+        phase: -HALF - MOST - 1,
+        ..FRESH
+    },
+];
+
 #[test]
-fn numbers_past_their_ranges_are_refused(rt: HostRuntime) -> Result<(), Fail> {
-    let fresh = FRESH;
-    let cases = [
-        DisciplineNumbers { hz: 0, ..fresh },
-        DisciplineNumbers { hz: 1_025, ..fresh },
-        DisciplineNumbers {
-            offset: HALF + 1,
-            ..fresh
-        },
-        DisciplineNumbers {
-            offset: -HALF - 1,
-            ..fresh
-        },
-        DisciplineNumbers {
-            offset: i64::MIN,
-            ..fresh
-        },
-        DisciplineNumbers {
-            constant: 11,
-            ..fresh
-        },
-        DisciplineNumbers {
-            maxerror: 16_000_001,
-            ..fresh
-        },
-        DisciplineNumbers {
-            esterror: 16_000_001,
-            ..fresh
-        },
-        DisciplineNumbers {
-            tick: 8_999,
-            ..fresh
-        },
-        DisciplineNumbers {
-            tick: 11_001,
-            ..fresh
-        },
-        DisciplineNumbers {
-            frequency: (500_000 << 32) + 1,
-            ..fresh
-        },
-        DisciplineNumbers {
-            frequency: -(500_000 << 32) - 1,
-            ..fresh
-        },
-        DisciplineNumbers {
-            reftime: 1 << 63,
-            ..fresh
-        },
-        DisciplineNumbers {
-            phase: HALF + MOST + 1,
-            ..fresh
-        },
-        DisciplineNumbers {
-            phase: -HALF - MOST - 1,
-            ..fresh
-        },
-    ];
-    for ntp in &cases {
-        refuses(&rt, numbers(*ntp), NumbersError::Discipline)?;
+fn numbers_past_their_ranges_are_refused(rt: HostRuntime) {
+    for ntp in &PAST {
+        refuses(&rt, numbers(*ntp), NumbersError::Discipline);
     }
-    refuses(&rt, planned(5, 0, 0), NumbersError::Leap)?;
-    refuses(&rt, planned(1, 2, 0), NumbersError::Leap)?;
-    refuses(&rt, planned(0, 0, 86_400), NumbersError::Leap)?;
-    refuses(&rt, lagging((1 << 59) - 1, u64::MAX), NumbersError::Lag)?;
-    refuses(&rt, lagging(3 << 59, 1), NumbersError::Lag)?;
-    refuses(&rt, lagging(u64::MAX, u64::MAX), NumbersError::Lag)?;
+    refuses(&rt, planned(5, 0, 0), NumbersError::Leap);
+    refuses(&rt, planned(1, 2, 0), NumbersError::Leap);
+    refuses(&rt, planned(0, 0, 86_400), NumbersError::Leap);
+    refuses(&rt, lagging((1 << 59) - 1, u64::MAX), NumbersError::Lag);
+    refuses(&rt, lagging(3 << 59, 1), NumbersError::Lag);
+    refuses(&rt, lagging(u64::MAX, u64::MAX), NumbersError::Lag);
     let late = SteeredNumbers {
         next: 9_223_372_038,
-        ..numbers(fresh)
+        ..numbers(FRESH)
     };
-    refuses(&rt, late, NumbersError::Second)
+    refuses(&rt, late, NumbersError::Second);
 }
 
 #[test]
-fn the_first_part_out_of_its_range_is_named(rt: HostRuntime) -> Result<(), Fail> {
+fn the_first_part_out_of_its_range_is_named(rt: HostRuntime) {
     let mut wrong = lagging(0, 0);
     wrong.next = u64::MAX;
-    refuses(&rt, wrong, NumbersError::Lag)?;
+    refuses(&rt, wrong, NumbersError::Lag);
     wrong.steering.ntp.plan.state = 5;
-    refuses(&rt, wrong, NumbersError::Leap)?;
+    refuses(&rt, wrong, NumbersError::Leap);
     wrong.steering.ntp.tick = 0;
-    refuses(&rt, wrong, NumbersError::Discipline)
+    refuses(&rt, wrong, NumbersError::Discipline);
 }
 
 /// Returns a request for an insertion at the end of the day, with the PLL on.
@@ -286,28 +285,31 @@ fn inserting() -> Timex {
 }
 
 #[test]
-fn restored_clocks_go_on_as_before(rt: HostRuntime) -> Result<(), Fail> {
-    let desc = nanosecond_counter()?;
-    let mut steered = SteeredClock::open(desc, 9, OPENED, 250).or(Err("a time of REALTIME"))?;
+fn restored_clocks_go_on_as_before(rt: HostRuntime) {
+    let desc = nanosecond_counter(&rt);
+    let mut steered = SteeredClock::open(desc, 9, OPENED, 250).expect(&rt, "a time of REALTIME");
     let _ = steered
         .adjtimex(500, &pll(9_000_000, 1))
-        .or(Err("no fault"))?;
-    steered.advance(20_600_000_000).or(Err("an advance"))?;
+        .expect(&rt, "no fault");
+    steered.advance(20_600_000_000).expect(&rt, "an advance");
     let _ = steered
         .adjtimex(20_700_000_000, &inserting())
-        .or(Err("no fault"))?;
+        .expect(&rt, "no fault");
     let kept = (steered.clock(), steered.numbers());
-    let mut restored = SteeredClock::from_numbers(kept.0, kept.1).or(Err("numbers in range"))?;
+    let mut restored = SteeredClock::from_numbers(kept.0, kept.1).expect(&rt, "numbers in range");
     for place in 0..40u64 {
         let reading = 21_000_000_000u64.wrapping_add(place.wrapping_mul(777_777_777));
-        assert_eq!(rt; restored.advance(reading), steered.advance(reading));
-        assert_same(&rt, &restored.numbers(), &steered.numbers());
-        assert_eq!(rt; restored.snapshot(0).words(), steered.snapshot(0).words());
+        assert_same(&rt, &restored.advance(reading), &steered.advance(reading));
+        assert_numbers(&rt, &restored.numbers(), &steered.numbers());
+        assert_same(
+            &rt,
+            &restored.snapshot(0).words(),
+            &steered.snapshot(0).words(),
+        );
     }
     let replies = (
         restored.adjtimex(60_000_000_000, &request(0)),
         steered.adjtimex(60_000_000_000, &request(0)),
     );
-    assert_eq!(rt; replies.0, replies.1);
-    Ok(())
+    assert_same(&rt, &replies.0, &replies.1);
 }

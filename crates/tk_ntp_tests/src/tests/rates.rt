@@ -1,6 +1,5 @@
 //! The frequency and the tick for the length of a second, and the lag.
-use super::{nanosecond_counter, request};
-use std::test::Fail;
+use super::{assert_same, nanosecond_counter, request};
 use tk_clock::Timespec;
 use tk_ntp::{Change, Discipline, Lag, Leap, Rate, Steering, Timex};
 
@@ -21,24 +20,24 @@ fn a_rate_makes_a_second_so_long(rt: HostRuntime) {
         (i64::MIN, 11_000, -32_768_000, 9000),
     ] {
         let found = Rate::of_length(length, asked);
-        assert_eq!(rt; found, Rate { frequency, tick }, "{length}");
+        assert_same(&rt, &(length, found), &(length, Rate { frequency, tick }));
     }
 }
 
 #[test]
-fn a_second_makes_up_for_the_lag(rt: HostRuntime) -> Result<(), Fail> {
-    let desc = nanosecond_counter()?;
+fn a_second_makes_up_for_the_lag(rt: HostRuntime) {
+    let desc = nanosecond_counter(&rt);
     let length = 4_295_396_792_729_600_000;
     let mut lag = Lag::none();
-    assert_eq!(rt; lag.made_up(desc), 0);
+    assert_same(&rt, &lag.made_up(desc), &0);
     // a second at 100 ppm, whose multiplier is rounded down
     lag.account(desc, length, 8_389_446, 999_900_113);
-    assert_eq!(rt; lag.made_up(desc), 440_685_576_842);
+    assert_same(&rt, &lag.made_up(desc), &440_685_576_842);
     let rate = Rate::of_length(length + 440_685_576_842, 10_000);
-    assert_eq!(rt; rate.frequency, 6_560_324);
+    assert_same(&rt, &rate.frequency, &6_560_324);
     // a second at the same multiplier that was asked to be a nominal one
     lag.account(desc, 4_294_967_296_000_000_000, 8_389_446, 1_000_000_000);
-    assert_eq!(rt; lag.made_up(desc), -428_615_314_423_158);
+    assert_same(&rt, &lag.made_up(desc), &-428_615_314_423_158);
     // any number of cycles leaves at most half a second
     for (mult, made_up) in [
         (0, 2_148_507_648_000_000),
@@ -46,15 +45,14 @@ fn a_second_makes_up_for_the_lag(rt: HostRuntime) -> Result<(), Fail> {
     ] {
         for _ in 0..3 {
             lag.account(desc, length, mult, u64::MAX);
-            assert_eq!(rt; lag.made_up(desc), made_up);
+            assert_same(&rt, &lag.made_up(desc), &made_up);
         }
     }
-    Ok(())
 }
 
 #[test]
-fn only_a_new_multiplier_needs_commands(rt: HostRuntime) -> Result<(), Fail> {
-    let desc = nanosecond_counter()?;
+fn only_a_new_multiplier_needs_commands(rt: HostRuntime) {
+    let desc = nanosecond_counter(&rt);
     let usual = Rate::of_length(4_294_967_296_000_000_000, 10_000);
     for (length, tick, set_tick, frequency) in [
         (4_295_396_792_729_600_000, 10_000, None, Some(6_553_600)),
@@ -74,15 +72,18 @@ fn only_a_new_multiplier_needs_commands(rt: HostRuntime) -> Result<(), Fail> {
             frequency,
         };
         let wanted = Rate::of_length(length, tick);
-        assert_eq!(rt; Change::between(desc, usual, wanted), expected, "{length}");
+        assert_same(
+            &rt,
+            &(length, Change::between(desc, usual, wanted)),
+            &(length, expected),
+        );
     }
-    Ok(())
 }
 
 #[test]
-fn each_second_of_a_pll_gets_a_command(rt: HostRuntime) -> Result<(), Fail> {
-    let desc = nanosecond_counter()?;
-    let mut steering = Steering::new(Discipline::new(250).ok_or("250 is in range")?);
+fn each_second_of_a_pll_gets_a_command(rt: HostRuntime) {
+    let desc = nanosecond_counter(&rt);
+    let mut steering = Steering::new(Discipline::new(250).expect(&rt, "250 is in range"));
     let pll = Timex {
         offset: 100_000_000,
         status: 1,
@@ -105,7 +106,7 @@ fn each_second_of_a_pll_gets_a_command(rt: HostRuntime) -> Result<(), Fail> {
     ] {
         let mult = desc.mult_for(frequency);
         let leap = steering.begin(desc, mult, cycles, sec);
-        assert_eq!(rt; leap, Leap::None);
+        assert_same(&rt, &leap, &Leap::None);
         let in_force = Rate {
             frequency,
             tick: 10_000,
@@ -114,10 +115,9 @@ fn each_second_of_a_pll_gets_a_command(rt: HostRuntime) -> Result<(), Fail> {
             tick: None,
             frequency: Some(wanted),
         };
-        assert_eq!(rt; steering.commands(desc, in_force), expected);
+        assert_same(&rt, &steering.commands(desc, in_force), &expected);
         frequency = wanted;
     }
     steering.clear();
-    assert_eq!(rt; steering.rate(desc).frequency, 0);
-    Ok(())
+    assert_same(&rt, &steering.rate(desc).frequency, &0);
 }

@@ -1,7 +1,6 @@
 //! Steered clocks that are opened with an uptime.
-use super::{nanosecond_counter, request};
+use super::{assert_same, nanosecond_counter, request};
 use std::process::Abort;
-use std::test::Fail;
 use tk_clock::ClockId::{Boottime, Monotonic, MonotonicRaw, Realtime, Tai};
 use tk_clock::{ClockId, Refusal, Timespec};
 use tk_ntp::{SteeredClock, TimeState, Timex};
@@ -11,28 +10,32 @@ fn time(sec: i64, nsec: u32) -> Timespec {
 }
 
 /// Opens clocks at the reading 9, at the beginning of a second, that have run for 3,600.25 s.
-fn opened(sec: i64) -> Result<SteeredClock, Fail> {
-    let desc = nanosecond_counter()?;
+fn opened(rt: &impl Abort, sec: i64) -> SteeredClock {
+    let desc = nanosecond_counter(rt);
     let opened = SteeredClock::open_at(desc, 9, time(sec, 0), time(3_600, 250_000_000), 250);
-    Ok(opened.or(Err("an uptime"))?)
+    opened.expect(rt, "an uptime")
 }
 
 /// Checks what clocks read two seconds after their opening.
 fn read(rt: &impl Abort, steered: &SteeredClock, times: &[(ClockId, Timespec)]) {
     let now = steered.snapshot(0);
     for (id, time) in times {
-        assert_eq!(rt; now.get(*id, 2_000_000_009), Ok(*time));
+        assert_same(rt, &now.get(*id, 2_000_000_009), &Ok(*time));
     }
 }
 
 #[test]
-fn steered_clocks_count_the_uptime_that_they_are_opened_with(rt: HostRuntime) -> Result<(), Fail> {
-    let mut steered = opened(1_700_000_000)?;
-    assert_eq!(rt; steered.next_second(), Some(1_000_000_009));
-    let reply = steered.adjtimex(9, &request(0)).or(Err("no fault"))?;
-    assert_eq!(rt; (reply.timex.sec, reply.timex.sub), (1_700_000_000, 0));
-    assert_eq!(rt; reply.state, TimeState::Error);
-    assert_eq!(rt; steered.advance(2_000_000_009), Ok(()));
+fn steered_clocks_count_the_uptime_that_they_are_opened_with(rt: HostRuntime) {
+    let mut steered = opened(&rt, 1_700_000_000);
+    assert_same(&rt, &steered.next_second(), &Some(1_000_000_009));
+    let reply = steered.adjtimex(9, &request(0)).expect(&rt, "no fault");
+    assert_same(
+        &rt,
+        &(reply.timex.sec, reply.timex.sub),
+        &(1_700_000_000, 0),
+    );
+    assert_same(&rt, &reply.state, &TimeState::Error);
+    assert_same(&rt, &steered.advance(2_000_000_009), &Ok(()));
     let ran = time(3_602, 250_000_000);
     let times = [
         (Monotonic, ran),
@@ -41,32 +44,30 @@ fn steered_clocks_count_the_uptime_that_they_are_opened_with(rt: HostRuntime) ->
         (Realtime, time(1_700_000_002, 0)),
     ];
     read(&rt, &steered, &times);
-    Ok(())
 }
 
 #[test]
-fn clocks_with_an_uptime_make_a_leap_second(rt: HostRuntime) -> Result<(), Fail> {
-    let mut steered = opened(1_483_228_798)?;
+fn clocks_with_an_uptime_make_a_leap_second(rt: HostRuntime) {
+    let mut steered = opened(&rt, 1_483_228_798);
     // inserts a second, with a TAI offset of 36
     let announcing = Timex {
         status: 0x10,
         constant: 36,
         ..request(0x90)
     };
-    let _ = steered.adjtimex(9, &announcing).or(Err("no fault"))?;
-    assert_eq!(rt; steered.advance(2_000_000_009), Ok(()));
+    let _ = steered.adjtimex(9, &announcing).expect(&rt, "no fault");
+    assert_same(&rt, &steered.advance(2_000_000_009), &Ok(()));
     let times = [
         (Realtime, time(1_483_228_799, 0)),
         (Tai, time(1_483_228_836, 0)),
         (Monotonic, time(3_602, 250_000_000)),
     ];
     read(&rt, &steered, &times);
-    Ok(())
 }
 
 #[test]
-fn an_opening_with_an_uptime_returns_the_first_fault(rt: HostRuntime) -> Result<(), Fail> {
-    let desc = nanosecond_counter()?;
+fn an_opening_with_an_uptime_returns_the_first_fault(rt: HostRuntime) {
+    let desc = nanosecond_counter(&rt);
     let limit = time(946_080_000, 0);
     for (real, uptime, hz, fault) in [
         (time(-1, 0), limit, 0, Refusal::Invalid),
@@ -77,9 +78,8 @@ fn an_opening_with_an_uptime_returns_the_first_fault(rt: HostRuntime) -> Result<
         (time(5, 0), time(5, 0), 1_025, Refusal::Invalid),
     ] {
         let refused = SteeredClock::open_at(desc, 9, real, uptime, hz).map(|_| ());
-        assert_eq!(rt; refused, Err(fault));
+        assert_same(&rt, &refused, &Err(fault));
     }
     let opens = SteeredClock::open_at(desc, 9, time(5, 0), time(5, 0), 1_024).map(|_| ());
-    assert_eq!(rt; opens, Ok(()));
-    Ok(())
+    assert_same(&rt, &opens, &Ok(()));
 }
