@@ -32,7 +32,7 @@ class All(Case):
                                               "    @unittest.skip('no such program')\n"
                                               "    def test_other(self): pass\n")
         text = (folder / "all.py").read_text(encoding="utf-8")
-        first = text[text.index("FIRST = ["):text.index("LONG = [")]
+        first = text[text.index("FIRST = ["):text.index("APART = [")]
         (folder / "all.py").write_text(text.replace(first, "FIRST = []\n"), encoding="utf-8")
         ran = subprocess.run([sys.executable, "-B", str(folder / "all.py"), *words], check=False,
                              capture_output=True, text=True, stdin=subprocess.DEVNULL)
