@@ -168,6 +168,14 @@ impl Discipline {
         second_with_phase(self.hz, self.tick, self.frequency, self.phase)
     }
 
+    /// Returns what each of `hz` parts of the present second gets beyond its length at the tick and
+    /// the frequency, in `2^-32` ns.
+    pub(crate) fn phase(&self) -> i64
+        ensures { result ≡ self.now.phase }
+    {
+        self.phase
+    }
+
     /// Returns the tick in force, in microseconds, 9,000 to 11,000.
     pub fn tick(&self) -> u32
         ensures value { result ≡ self.now.tick }

@@ -1,6 +1,7 @@
 //! Keeps what a clock lags behind the lengths of its seconds.
 ghost use Rattle.std.specs.Prelude.{◌≡◌, ◌+◌, ◌*◌, ◌/◌, ◌≤◌, ◌<◌, ◌^◌, min, pos, negsuc, neg_ℤ, ◌+ℤ◌, ◌*ℤ◌, ◌≤ℤ◌, unsigned_abs, true};
 ghost use Rattle.std.specs.Int.{int_max};
+ghost use Rattle.tk_counter.specs.Counter.{second};
 ghost use Rattle.tk_ntp.specs.Loops.{clamped_by};
 ghost use Rattle.tk_ntp.specs.Lag.{lag_in, short_of, greatest_lag, lag_after, most_made_up, made_up};
 ghost use Rattle.tk_ntp.specs.Numbers.{lag_numbers};
@@ -139,34 +140,40 @@ impl Lag {
         ensures most { unsigned_abs result ≤ most_made_up desc }
         ensures short { unsigned_abs result ≤ 2 ^ 56 }
     {
-        let most = most_made_up(desc);
         let amount = self.amount();
         if amount < 0 {
-            clamped_below((-1 - amount) as u128, desc.shift(), most)
+            clamped_below((-1 - amount) as u128, desc)
         } else {
-            clamped_above(amount as u128, desc.shift(), most)
+            clamped_above(amount as u128, desc)
         }
     }
 }
 
-/// Returns the whole seconds of an amount, or `most` if there are more.
-fn clamped_above(amount: u128, shift: u32, most: i64) -> i64
-    requires shift { shift ≤ 32 }
-    requires since { pos 0 ≤ℤ most }
-    requires most { unsigned_abs most ≤ 2 ^ 56 }
-    ensures { result ≡ pos (min (amount / (10 ^ 9 * 2 ^ shift)) (unsigned_abs most)) }
+/// Returns the whole seconds of an amount, or the most that a second makes up for if there are more.
+fn clamped_above(amount: u128, desc: CounterDesc) -> i64
+    ensures value { result ≡ pos (min (amount / second desc) (most_made_up desc)) }
+    ensures short { unsigned_abs result ≤ 2 ^ 56 }
 {
-    (seconds_of(amount, shift) as i64).min(most)
+    let seconds = seconds_of(amount, desc.shift()) as i64;
+    // the most is at least this, and takes a division
+    if seconds <= MAX_FREQUENCY {
+        return seconds;
+    }
+    seconds.min(most_made_up(desc))
 }
 
-/// Returns what is left of -1 after the whole seconds of an amount, or `-most` if that is greater.
-fn clamped_below(amount: u128, shift: u32, most: i64) -> i64
-    requires shift { shift ≤ 32 }
-    requires since { pos 0 ≤ℤ most }
-    requires most { unsigned_abs most ≤ 2 ^ 56 }
-    ensures { result ≡ int_max (negsuc (amount / (10 ^ 9 * 2 ^ shift))) (neg_ℤ most) }
+/// Returns what is left of -1 after the whole seconds of an amount, or minus the most that a second
+/// makes up for if that is greater.
+fn clamped_below(amount: u128, desc: CounterDesc) -> i64
+    ensures value { result
+        ≡ int_max (negsuc (amount / second desc)) (neg_ℤ (pos (most_made_up desc))) }
+    ensures short { unsigned_abs result ≤ 2 ^ 56 }
 {
-    (-1 - seconds_of(amount, shift) as i64).max(-most)
+    let seconds = -1 - seconds_of(amount, desc.shift()) as i64;
+    if seconds >= -MAX_FREQUENCY {
+        return seconds;
+    }
+    seconds.max(-most_made_up(desc))
 }
 
 /// Returns the whole seconds of an amount in units of `2^-shift` ns, or 2^60 if there are more.

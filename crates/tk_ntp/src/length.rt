@@ -20,6 +20,10 @@ pub(crate) fn toward_zero(number: i64, divisor: u64) -> i64
     ensures parts { unsigned_abs (number -ℤ result) + unsigned_abs result ≡ unsigned_abs number }
     ensures most { unsigned_abs result * divisor ≤ unsigned_abs number }
 {
+    // a division takes long, and mostly there is nothing to divide
+    if number == 0 {
+        return 0;
+    }
     number / divisor as i64
 }
 

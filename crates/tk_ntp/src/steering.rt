@@ -105,8 +105,12 @@ impl Steering {
         ensures leap { result ≡ leap_at self.old.ntp sec }
     {
         self.account(desc, mult, cycles);
+        let phase = self.ntp.phase();
         let leap = self.ntp.overflow(sec);
-        self.length = self.ntp.second_length();
+        // a second changes neither the tick nor the frequency
+        if self.ntp.phase() != phase {
+            self.length = self.ntp.second_length();
+        }
         leap
     }
 
@@ -164,7 +168,9 @@ impl Steering {
     fn needed(&self, desc: CounterDesc) -> i64
         ensures { result ≡ needed desc self.now }
     {
-        self.ntp.second_length() + self.lag.made_up(desc)
+        // its contract has the ranges by which the sum fits
+        let _tick = self.ntp.tick();
+        self.length + self.lag.made_up(desc)
     }
 
     /// Returns the commands for the present second, at the rate in force, whose tick is 9,000 to
