@@ -183,4 +183,7 @@ impl Discipline {
     {
         self.tick
     }
+
+    pub(crate) fn is_quiet(&self) -> bool { self.offset == 0 && self.adjust == 0 && self.phase == 0 && self.plan.is_idle() && self.status & 0x30 == 0 }
+    pub(crate) fn pass(&mut self, seconds: u64) { if seconds > 0 { let error = u64::from(self.maxerror) + 500 * seconds; if error > 16_000_000 { self.status |= STA_UNSYNC; } self.maxerror = error.min(16_000_000) as u32; } }
 }

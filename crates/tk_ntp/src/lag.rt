@@ -79,7 +79,7 @@ impl Lag {
     }
 
     /// Returns the lag of an amount.
-    fn of_amount(amount: i128) -> Lag
+    pub(crate) fn of_amount(amount: i128) -> Lag
         requires { unsigned_abs amount ≤ 2 ^ 123 }
         ensures { result ≡ amount }
     {
@@ -91,7 +91,7 @@ impl Lag {
     }
 
     /// Returns the lag as one number.
-    fn amount(&self) -> i128
+    pub(crate) fn amount(&self) -> i128
         ensures value { result ≡ self.now }
         ensures most { unsigned_abs result ≤ 2 ^ 123 }
     {

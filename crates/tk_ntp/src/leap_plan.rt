@@ -103,6 +103,7 @@ impl LeapPlan {
         }
     }
 
+    pub(crate) fn is_idle(self) -> bool { self.state == 0 && !self.is_due }
     /// Returns what the leap second is doing.
     pub(crate) fn state(self) -> LeapState
         ensures { result ≡ self.state }

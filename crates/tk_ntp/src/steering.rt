@@ -183,4 +183,8 @@ impl Steering {
     {
         Change::between(desc, in_force, self.rate(desc))
     }
+
+    pub(crate) fn is_quiet(&self) -> bool { self.ntp.is_quiet() }
+    pub(crate) fn lag_amount(&self) -> i128 { self.lag.amount() }
+    pub(crate) fn pass(&mut self, lag: i128, seconds: u64) { self.lag = Lag::of_amount(lag); self.ntp.pass(seconds); }
 }

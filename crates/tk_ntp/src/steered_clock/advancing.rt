@@ -47,6 +47,8 @@ impl SteeredClock {
         // the lag stays small while the clocks get the rates that their seconds need
         ensures small { IfOk result (λ _. StaysSmall reading self.old self.new) }
     {
+        self.course.test(&self.clock, reading)?;
+        self.course.pass_quiet(&mut self.clock, reading);
         self.course.advance(&mut self.clock, false, 0, reading)
     }
 

@@ -1,0 +1,2 @@
+d=$1; cd /tmp/h3_rs/$d; F="--edition 2021 -A warnings -C opt-level=3 -C target-cpu=x86-64-v2 -L ."
+rustc $F --crate-type rlib --crate-name tk_counter tk_counter/lib.rs && rustc $F --crate-type rlib --crate-name tk_clock --extern tk_counter=libtk_counter.rlib tk_clock/lib.rs && rustc $F --crate-type rlib --crate-name tk_ntp --extern tk_counter=libtk_counter.rlib --extern tk_clock=libtk_clock.rlib tk_ntp/lib.rs
