@@ -20,6 +20,9 @@ fn main(){
   let mut ok=true;
   if each { let steps=n*2; for j in 1..=steps { let at=first.wrapping_add((span*u128::from(j)/u128::from(steps)) as u64)&desc.mask(); if s.advance(at).is_err(){ok=false;} } }
   else { for j in 1..=2u64 { let at=first.wrapping_add((span*u128::from(j)/2) as u64)&desc.mask(); if s.advance(at).is_err(){ok=false;} } }
+  // and up to a reading next to the beginning of a second
+  let mut t=s; let mut start=None; for _ in 0..n { let Some(at)=t.next_second() else {break}; if t.advance(at).is_err() {break} start=Some(at); }
+  if let Some(at)=start { let near=at.wrapping_add(rnd()%3).wrapping_sub(1)&desc.mask(); if s.advance(near).is_err() {ok=false;} }
   if !ok {continue}
   secs+=n;
   let t=format!("{:?}",s.numbers()); let w=s.snapshot(0).words(); let rt=s.rate();
