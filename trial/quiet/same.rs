@@ -12,9 +12,12 @@ fn main(){
   let hz=[100,250,300,1000,1024,1][(rnd()%6) as usize];
   let real=Timespec{sec:base.max(up),nsec:(rnd()%1_000_000_000) as u32};
   let Ok(mut s)=SteeredClock::open_at(desc,last,real,Timespec{sec:up,nsec:0},hz) else {continue};
-  let mut r=Timex::default(); r.modes=ADJ_FREQUENCY|ADJ_MAXERROR|ADJ_STATUS; r.freq=(rnd()%65536001) as i64-32768000; r.maxerror=(rnd()%16_000_000) as i64; r.status=STA_PLL;
+  let mut r=Timex::default(); r.modes=ADJ_FREQUENCY|ADJ_MAXERROR|ADJ_STATUS; r.freq=(rnd()%65536001) as i64-32768000; r.maxerror=if rnd()%2==0 {(rnd()%16_000_000) as i64} else {16_000_000-500*(rnd()%40) as i64}; r.status=STA_PLL;
   let k=rnd()%6; if k==0 {r.modes|=ADJ_OFFSET|ADJ_NANO|ADJ_TIMECONST; r.offset=(rnd()%1000) as i64-500;r.constant=(rnd()%3) as i64;} if k==1 {r.status|=STA_INS;} if k==2 {r.modes|=ADJ_TICK; r.tick=9000+(rnd()%2001) as i64;}
-  let first=last.wrapping_add((rnd() as u128 %(second+1)) as u64)&desc.mask();
+  let mut first=last.wrapping_add((rnd() as u128 %(second+1)) as u64)&desc.mask();
+  // half of the requests are at the beginning of a second, which may be quiet then
+  if rnd()%2==0 { if let Some(at)=s.next_second() {first=at;} }
+  if rnd()%4==0 { let mut q=Timex::default(); q.modes=ADJ_ADJTIME; q.offset=(rnd()%3000) as i64-1500; let _=s.adjtimex(first,&q); }
   let _=s.adjtimex(first,&r);
   let n=3+rnd()%40; let span=second*u128::from(n); if span>>61!=0 {continue}
   let mut ok=true;
