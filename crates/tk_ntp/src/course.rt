@@ -8,6 +8,7 @@ mod commanding;
 mod due;
 mod following;
 mod giving;
+mod turning;
 
 use crate::change::Change;
 use crate::numbers::SteeredNumbers;
