@@ -1,5 +1,4 @@
 //! Tests that reads return while a command holds the lock.
-ghost use Rattle.std.specs.Prelude.{◌≡◌};
 ghost use Rattle.tk_shared.specs.Opening.{IsNamed};
 
 use super::{assert_same, commanded, glanced, open_two, read_by, ready};
@@ -101,7 +100,6 @@ fn beside<'a, L: Named + Send + Sync, R: Threads + Wait + Abort + Sync>(
     answered: &AtomicU64,
 ) -> Result<(), Fail>
     requires named { IsNamed prepared L.page L.latch L.notice L.name L.parts L.callers }
-    requires two { prepared.callers ≡ 2 }
 {
     let (keeper, mut one, mut two) = open_two::<L, Waits<'a>>(alloc, prepared)?;
     both_act(rt, &keeper, &mut one, &mut two, inside, answered);

@@ -1,8 +1,7 @@
 //! Tests the time now in one thread, with a counter whose readings are known.
-ghost use Rattle.std.specs.Prelude.{◌≡◌};
 ghost use Rattle.tk_shared.specs.Opening.{IsNamed};
 
-use super::{assert_same, commanded, open_two, ready_on, time};
+use super::{assert_same, commanded, now_by, now_glanced, open_two, ready_on, time};
 use std::alloc::Global;
 use std::marker::Brand;
 use std::process::Abort;
@@ -118,13 +117,23 @@ fn all_turns_named<L: Named, C: Counter, S: SharedCounter, R: Wait + Abort>(
     turns: &[Turn],
 ) -> Result<(), Fail>
     requires named { IsNamed prepared L.page L.latch L.notice L.name L.parts L.callers }
-    requires two { prepared.callers ≡ 2 }
 {
     let (keeper, mut one, mut two) = open_two::<L, C>(alloc, prepared)?;
-    for turn in turns {
-        takes_turn(rt, &keeper, &mut one, &mut two, counter, turn);
-    }
+    takes_turns(rt, &keeper, &mut one, &mut two, counter, turns);
     Ok(())
+}
+
+fn takes_turns<L: Named, C: Counter, S: SharedCounter, R: Wait + Abort>(
+    rt: &R,
+    keeper: &SharedKeeper<L, C>,
+    one: &mut Caller<L>,
+    two: &mut Caller<L>,
+    counter: &S,
+    turns: &[Turn],
+) {
+    for turn in turns {
+        takes_turn(rt, keeper, one, two, counter, turn);
+    }
 }
 
 fn takes_turn<L: Named, C: Counter, S: SharedCounter, R: Wait + Abort>(
@@ -138,10 +147,10 @@ fn takes_turn<L: Named, C: Counter, S: SharedCounter, R: Wait + Abort>(
     match turn {
         Turn::Gives(cmd, result) => assert_same(rt, &commanded(rt, keeper, one, *cmd), result),
         Turn::Asks(clock, result) => {
-            assert_same(rt, &keeper.now(rt, two, counter, *clock), result);
+            assert_same(rt, &now_by(rt, keeper, two, counter, *clock), result);
         }
         Turn::AsksFast(clock, result) => {
-            assert_same(rt, &keeper.now_fast(two, counter, *clock), result);
+            assert_same(rt, &now_glanced(keeper, two, counter, *clock), result);
         }
     }
 }
@@ -162,15 +171,25 @@ fn rises<L: Named, C: Counter, S: SharedCounter, R: Wait + Abort + AllocGlobal>(
     counter: &S,
 ) -> Result<(), Fail>
     requires named { IsNamed prepared L.page L.latch L.notice L.name L.parts L.callers }
-    requires two { prepared.callers ≡ 2 }
 {
     let (keeper, mut one, mut two) = open_two::<L, C>(rt.alloc(), prepared)?;
+    rises_by(rt, &keeper, &mut one, &mut two, counter)
+}
+
+/// Asks by the page and by the latch in turn, with a command between.
+fn rises_by<L: Named, C: Counter, S: SharedCounter, R: Wait + Abort>(
+    rt: &R,
+    keeper: &SharedKeeper<L, C>,
+    one: &mut Caller<L>,
+    two: &mut Caller<L>,
+    counter: &S,
+) -> Result<(), Fail> {
     let mut before = 0;
     for _ in 0..1000 {
-        let by_page = nanoseconds(keeper.now(rt, &mut two, counter, ClockId::Monotonic)?);
-        let done = commanded(rt, &keeper, &mut one, Command::Update);
+        let by_page = nanoseconds(now_by(rt, keeper, two, counter, ClockId::Monotonic)?);
+        let done = commanded(rt, keeper, one, Command::Update);
         assert_same(rt, &done.is_ok(), &true);
-        let Ok(by_latch) = keeper.now_fast(&mut two, counter, ClockId::Monotonic) else {
+        let Ok(by_latch) = now_glanced(keeper, two, counter, ClockId::Monotonic) else {
             return Err("a time by the latch".into());
         };
         let by_latch = nanoseconds(by_latch);

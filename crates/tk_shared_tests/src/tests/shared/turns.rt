@@ -1,8 +1,8 @@
 //! Tests two callers that take turns in one thread.
 ghost use Rattle.std.specs.Prelude.{◌≡◌, [], ◌∷◌, IfOk};
 
-use super::deeds::{Deed, Two, does};
-use super::{assert_same, commanded, glanced, read_by, time};
+use super::deeds::{Deed, closes, does};
+use super::{assert_same, closed, commanded, follow_by, glanced, read_by, time};
 use std::alloc::Global;
 use std::process::Abort;
 use std::sync::Wait;
@@ -19,32 +19,22 @@ const SET: Command = Command::SetTime(Timespec {
 
 #[test]
 fn a_command_is_read_by_both_and_all_callers_close(rt: HostRuntime) -> Result<(), Fail> {
-    does(&rt, rt.alloc(), Ticker::new(0, 1_000), Deed::Read)
-}
-
-pub(super) fn reads<L: Named>(rt: &(impl Wait + Abort), mut two: Two<L>) -> Result<(), Fail>
-    requires callers { (two.one.id ≡ 0) × (two.other.id ≡ 1) }
-{
-    both_read(rt, &two.keeper, &mut two.one, &mut two.other);
     let Closed {
         keeper,
         mut counter,
-    } = closed_late(rt, two)?;
+    } = closes(&rt, rt.alloc(), Ticker::new(0, 1_000), Deed::Read)?;
     // it was read at the opening and by each command
-    assert_same(rt, &counter.read(), &3_000);
-    is_journal(rt, &keeper)
+    assert_same(&rt, &counter.read(), &3_000);
+    is_journal(&rt, &keeper)
 }
 
 /// Lets both callers give a command. Both read the first one's.
-fn both_read<L: Named, R: Wait + Abort>(
+pub(super) fn both_read<L: Named, R: Wait + Abort>(
     rt: &R,
     keeper: &SharedKeeper<L, Ticker>,
     one: &mut Caller<L>,
     two: &mut Caller<L>,
-)
-    ensures one { one.new.id ≡ one.old.id }
-    ensures two { two.new.id ≡ two.old.id }
-{
+) {
     let opened = (one.front(), one.mark(), one.accepted());
     let first = commanded(rt, keeper, one, SET);
     let own = read_by(rt, keeper, one);
@@ -73,24 +63,22 @@ fn is_set_between<R: Abort>(
 }
 
 /// Closes with only the first caller, which is refused, and then with both.
-fn closed_late<L: Named>(rt: &impl Wait, two: Two<L>) -> Result<Closed<Ticker>, Fail>
-    requires callers { (two.one.id ≡ 0) × (two.other.id ≡ 1) }
-{
-    let Two {
-        alloc,
-        keeper,
-        one,
-        other,
-    } = two;
+pub(super) fn closed_late<L: Named>(
+    rt: &impl Wait,
+    alloc: Global,
+    keeper: SharedKeeper<L, Ticker>,
+    one: Caller<L>,
+    other: Caller<L>,
+) -> Result<Closed<Ticker>, Fail> {
+    if one.id() != 0 || other.id() != 1 {
+        return Err(Fail::from("other callers"));
+    }
     let Missing {
         keeper,
         mut callers,
     } = refused(rt, alloc, keeper, one)?;
     callers.push(other).ok().ok_or("memory")?;
-    match keeper.close(rt, callers) {
-        Ok(closed) => Ok(closed),
-        Err(_) => Err(Fail::from("not closed")),
-    }
+    closed(rt, keeper, callers)
 }
 
 /// Closes with only this caller, which is refused.
@@ -134,8 +122,12 @@ fn a_fast_read_finds_what_another_caller_did(rt: HostRuntime) -> Result<(), Fail
     does(&rt, rt.alloc(), Ticker::new(0, 1_000), Deed::ReadFast)
 }
 
-pub(super) fn reads_fast<L: Named>(rt: &(impl Wait + Abort), two: &mut Two<L>) -> Result<(), Fail> {
-    let (keeper, one, two) = (&two.keeper, &mut two.one, &mut two.other);
+pub(super) fn reads_fast<L: Named>(
+    rt: &(impl Wait + Abort),
+    keeper: &SharedKeeper<L, Ticker>,
+    one: &mut Caller<L>,
+    two: &mut Caller<L>,
+) -> Result<(), Fail> {
     let first = commanded(rt, keeper, one, SET);
     let own = glanced(keeper, one).ok().ok_or("read")?;
     let others = glanced(keeper, two).ok().ok_or("read")?.front();
@@ -152,11 +144,15 @@ fn a_caller_that_follows_knows_what_another_one_did(rt: HostRuntime) -> Result<(
     does(&rt, rt.alloc(), Ticker::new(0, 1_000), Deed::Follow)
 }
 
-pub(super) fn follows<L: Named>(rt: &(impl Wait + Abort), two: &mut Two<L>) -> Result<(), Fail> {
-    let (keeper, one, two) = (&two.keeper, &mut two.one, &mut two.other);
+pub(super) fn follows<L: Named>(
+    rt: &(impl Wait + Abort),
+    keeper: &SharedKeeper<L, Ticker>,
+    one: &mut Caller<L>,
+    two: &mut Caller<L>,
+) {
     let first = commanded(rt, keeper, one, SET);
     let before = (two.front(), two.mark());
-    keeper.follow(rt, two, one);
+    follow_by(rt, keeper, two, one);
     let after = (two.front(), two.mark(), two.accepted());
     let other = (one.front(), one.mark(), one.accepted());
     assert_same(
@@ -168,5 +164,4 @@ pub(super) fn follows<L: Named>(rt: &(impl Wait + Abort), two: &mut Two<L>) -> R
     let second = commanded(rt, keeper, two, Command::Update);
     let last = read_by(rt, keeper, one).last();
     assert_same(rt, &(second, last), &(Ok(2), 2_000));
-    Ok(())
 }
