@@ -156,11 +156,11 @@ class Unseen(RunTest):
 class Unfiltered(RunTest):
     """Inside another tkrun, and where no process may install a filter, programs are looked at."""
 
-    def inside(self, *arguments):
-        """Runs a tkrun in both ways, and returns its runs."""
+    def inside(self, *arguments, before=()):
+        """Runs a tkrun in both ways, with these words before it, and returns its runs."""
         run = [TKRUN, *map(str, arguments)]
-        return [call([TKRUN, "--quiet", "--lax", "--", *run])] * CAN_FILTER + [
-            call([program("filtered"), "deny", CALLS["seccomp"], *run])]
+        return [call([*before, TKRUN, "--quiet", "--lax", "--", *run])] * CAN_FILTER + [
+            call([*before, program("filtered"), "deny", CALLS["seccomp"], *run])]
 
     def test_the_library_is_found(self):
         # it is looked at several times
@@ -219,5 +219,8 @@ class Unfiltered(RunTest):
             self.skipTest(f"{last} can't be written")
         code = (f"last=$(cat {last}); end=$((SECONDS + 3)); while ((SECONDS < end)); do "
                 f"echo $last >{last}; date >/dev/null; done; true")
-        for run in self.inside("--quiet", "--", "bash", "-c", code):
+        # in a namespace of its own: on the whole machine a process that ends another one by its number
+        # could meet one of these
+        for run in self.inside("--quiet", "--", "bash", "-c", code,
+                               before=["unshare", "--pid", "--fork", "--mount-proc"]):
             self.assertEqual((run.returncode, run.stderr), (0, ""))
