@@ -3,9 +3,9 @@
     all.py [--all] [MODULE..]
 
 Without a module, it runs the quick ones, and with --all those of servers and 2,000 kills too. Each
-module runs in a process of its own, or each of its tests if they take long, and two processes at
-once for each processor, since most tests wait. What they print is printed in the order of their
-names. No test is run twice: each holds on a busy machine too.
+module runs in a process of its own, or each of its tests if they take long, and one more process at
+once than there are processors, since many tests wait. What they print is printed in the order of
+their names. No test is run twice: each holds on a busy machine too.
 """
 import os
 import pathlib
@@ -16,7 +16,7 @@ import unittest
 from concurrent import futures
 
 FOLDER = pathlib.Path(__file__).parent
-AT_ONCE = 2  # processes that run at once for each processor
+MORE = 1  # processes that run at once, beyond the number of processors
 # the modules that take longest come first
 FIRST = ["test_kernel", "test_nodes", "test_waits", "test_masks", "test_python", "test_chrony",
          "test_check", "test_calls", "test_net_streams", "test_net_connections",
@@ -57,7 +57,7 @@ def main(names, are_all):
     first = LONG * are_all + FIRST
     rest = sorted(modules - set(LONG) - set(FIRST))
     is_well = True
-    with futures.ThreadPoolExecutor(AT_ONCE * len(os.sched_getaffinity(0))) as pool:
+    with futures.ThreadPoolExecutor(len(os.sched_getaffinity(0)) + MORE) as pool:
         ends = {name: pool.submit(run_apart, name) for module in first + rest
                 for name in parts_of(module)}
         for name in sorted(ends):
