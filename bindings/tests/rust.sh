@@ -49,7 +49,7 @@ check_rust_memory() {
 check_crate() {
     local name code=$top/bindings/rust
     [ "$(grep -c '^name' "$code/Cargo.lock")" = 1 ] || fail "the Rust crate has a dependency"
-    # (cargo itself notices changes of its own variables)
+    # (cargo notices changes of the variables that it sets)
     while read -r name; do
         grep -q "for name in \[.*\"$name\"" "$code/build.rs" ||
             fail "build.rs reads $name, and cargo doesn't run it again when that changes"

@@ -219,8 +219,8 @@ class Unfiltered(RunTest):
             self.skipTest(f"{last} can't be written")
         code = (f"last=$(cat {last}); end=$((SECONDS + 3)); while ((SECONDS < end)); do "
                 f"echo $last >{last}; date >/dev/null; done; true")
-        # in a namespace of its own: on the whole machine a process that ends another one by its number
-        # could meet one of these
+        # in a separate namespace: on the whole machine, another test that kills a process by its
+        # number could kill one of these
         for run in self.inside("--quiet", "--", "bash", "-c", code,
                                before=["unshare", "--pid", "--fork", "--mount-proc"]):
             self.assertEqual((run.returncode, run.stderr), (0, ""))

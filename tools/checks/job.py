@@ -7,8 +7,8 @@ import subprocess
 import time
 
 PAUSE = 0.1  # s between two looks at a command's output
-# how nice a command is that runs beside others, of whose time it gets a third, and one that only
-# fills processors that are idle
+# The nice values of a command that runs next to others and gets a third of their time, and of one
+# that only uses idle processors.
 BESIDE, IDLE = 5, 19
 GRACE = 10  # s that a command has to end after SIGTERM
 
