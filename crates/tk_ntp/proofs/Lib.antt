@@ -33,6 +33,7 @@ pub mod Restored
 pub mod Seconds
 pub mod Scaled
 pub mod Settled
+pub mod Soon
 pub mod Steady
 pub mod TaiKept
 pub mod Due

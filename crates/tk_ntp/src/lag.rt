@@ -6,8 +6,11 @@ ghost use Rattle.tk_ntp.specs.Lag.{lag_in, short_of, greatest_lag, lag_after, mo
 ghost use Rattle.tk_ntp.specs.Numbers.{lag_numbers};
 ghost use Rattle.tk_ntp.specs.Restored.{is_lag, lag_of};
 
+mod soon;
+
 use crate::length::MAX_FREQUENCY;
 use crate::numbers::LagNumbers;
+pub(crate) use soon::FEW_CYCLES;
 use std::marker::Model;
 use tk_counter::{CounterDesc, NANOS_PER_SECOND};
 
@@ -124,12 +127,24 @@ impl Lag {
     pub fn account(&mut self, desc: CounterDesc, length: i64, mult: u32, cycles: u64)
         ensures { self.new ≡ lag_after desc length mult cycles self.old }
     {
-        *self = Lag::of_amount(lag_after(
+        *self = match self.accounted_soon(desc, length, mult, cycles) {
+            Some(lag) => lag,
+            None => self.accounted_late(desc, length, mult, cycles),
+        };
+    }
+
+    /// Returns the result of any account. It is out of line, so that most accounts don't reserve
+    /// its stack.
+    #[inline(never)]
+    fn accounted_late(&self, desc: CounterDesc, length: i64, mult: u32, cycles: u64) -> Lag
+        ensures { result ≡ lag_after desc length mult cycles self.now }
+    {
+        Lag::of_amount(lag_after(
             self.amount(),
             greatest_lag(desc),
             cycles,
             short_of(desc, length, mult),
-        ));
+        ))
     }
 
     /// Returns what the next second makes up for, in `2^-32` ns: the lag, at most 500 us and two
