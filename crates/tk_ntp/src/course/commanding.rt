@@ -27,7 +27,27 @@ impl Course {
     /// - The errors of `SteeredClock::apply`.
     /// - The errors of `Clocks::ready`, for the entries of a second or of the command. The seconds
     ///   before have begun.
+    #[inline(always)]
     pub fn apply<C: Clocks>(
+        &mut self,
+        clocks: &mut C,
+        who: u32,
+        reading: u64,
+        cmd: Command,
+    ) -> Result<(), Refusal>
+        ensures { IsAppliedTo C.state C.is_after C.has_room C.is_short who reading cmd clocks.old
+            self.old result clocks.new self.new }
+    {
+        if let Command::Update = cmd {
+            return self.apply_update(clocks, who, reading);
+        }
+        self.apply_any(clocks, who, reading, cmd)
+    }
+
+    /// Applies any command, as `apply` does. It is out of line, so that most updates don't reserve
+    /// its stack.
+    #[inline(never)]
+    fn apply_any<C: Clocks>(
         &mut self,
         clocks: &mut C,
         who: u32,
@@ -56,14 +76,33 @@ impl Course {
     {
         match cmd {
             Command::Resume(_) => self.apply_direct(clocks, who, reading, cmd),
-            Command::Update => self.apply_update(clocks, who, reading),
+            Command::Update => self.apply_late(clocks, who, reading),
             _ => self.apply_awake(clocks, who, reading, cmd),
         }
     }
 
     /// Applies an update after the seconds up to its reading have begun. Mostly none is due, and
     /// then the update is the test of its reading.
+    #[inline(always)]
     fn apply_update<C: Clocks>(
+        &mut self,
+        clocks: &mut C,
+        who: u32,
+        reading: u64,
+    ) -> Result<(), Refusal>
+        ensures { IsFollowedTo C.state C.is_after C.has_room C.is_short who reading Update
+            clocks.old self.old result clocks.new self.new }
+    {
+        if self.is_soon(clocks.clock(), reading) && clocks.is_ready(SECOND_ENTRIES_LIMIT) {
+            return self.apply_settled(clocks, who, reading);
+        }
+        self.apply_late(clocks, who, reading)
+    }
+
+    /// Applies any update, as `apply_update` does. It is out of line, so that most updates don't
+    /// reserve its stack.
+    #[inline(never)]
+    fn apply_late<C: Clocks>(
         &mut self,
         clocks: &mut C,
         who: u32,

@@ -11,6 +11,7 @@ ghost use Rattle.tk_ntp.specs.Staged.{IsEarly, IsInOrder, IsSettled};
 ghost use Rattle.tk_ntp.specs.SteeredClock.{reading_refusal};
 
 use super::Course;
+use crate::lag::FEW_CYCLES;
 use tk_clock::{Clock, ClockId, Command, Refusal, Timespec};
 use tk_counter::NANOS_PER_SECOND;
 
@@ -27,6 +28,18 @@ impl Course {
             return Err(Refusal::Behind);
         }
         Ok(())
+    }
+
+    /// Returns whether a reading is of the usual kind: few cycles after the last account, which is
+    /// at the last command, and before the next second.
+    #[inline(always)]
+    pub(super) fn is_soon(&self, clock: &Clock, reading: u64) -> bool
+        ensures { result ≡ true → IsSettled (seen clock.now self.now) reading }
+    {
+        let now = clock.snapshot(0);
+        self.mark == now.last()
+            && now.desc().gap(now.last(), reading) < FEW_CYCLES
+            && self.is_settled(clock, reading)
     }
 
     /// Returns whether the clocks are awake, and a read shows that REALTIME is before the next second

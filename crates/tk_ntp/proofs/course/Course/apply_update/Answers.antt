@@ -13,5 +13,5 @@ returns-then-is_ready g c =
     followed kept.state kept.is_after kept.has_room kept.is_short g.met.C.Clocks.stays c.args.who
     c.args.reading a before c.apply_settled.result c.apply_settled.new.clocks c.apply_settled.new.self
     (subst (λ (k : State). IsSettled (seen k before) c.args.reading) c.clock.ensures
-    (c.is_settled.ensures.settled c.if-is_settled.true))
+    (c.is_soon.ensures c.if-is_soon.true))
     (c.if-is_ready.ensures.0 refl) c.apply_settled.ensures
