@@ -63,6 +63,7 @@ impl Course {
     ghost use Rattle.tk_ntp.specs.Asked.{with_asked};
     ghost use Rattle.tk_ntp.specs.Course.{seen};
     ghost use Rattle.tk_ntp.specs.Fault.{is_faulty};
+    ghost use Rattle.tk_ntp.specs.Ntp.{second_length};
     ghost use Rattle.tk_ntp.specs.Numbers.{steered_numbers};
     ghost use Rattle.tk_ntp.specs.Reply.{reply_to};
     ghost use Rattle.tk_ntp.specs.Restored.{steered_from};
@@ -70,7 +71,7 @@ impl Course {
     ghost use Rattle.tk_ntp.specs.SteeredClock.{accounted_to, rate_in_force};
 
     /// Returns the numbers that the discipline, the lag, the next second and the mark are kept in.
-    pub(crate) fn numbers(&self) -> SteeredNumbers
+    pub fn numbers(&self) -> SteeredNumbers
         ensures value { (clock : State) → result ≡ steered_numbers (seen clock self.now) }
         ensures back { (clock : State) → let steered = seen clock self.now in
             steered_from clock (steered_numbers steered) ≡ Ok steered }
@@ -80,6 +81,13 @@ impl Course {
             next: self.next,
             mark: self.mark,
         }
+    }
+
+    /// Returns the length of the present second, in `2^-32` ns (`Discipline::second_length`).
+    pub fn second_length(&self) -> i64
+        ensures { result ≡ second_length self.now.steering.ntp }
+    {
+        self.steering.second_length()
     }
 
     /// Returns the reading up to which the lag is accounted for, in cycles.

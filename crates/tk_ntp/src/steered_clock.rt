@@ -10,7 +10,7 @@ use crate::discipline::Discipline;
 use crate::rate::Rate;
 use crate::steering::Steering;
 use std::marker::Model;
-use tk_clock::{Clock, ClockId, Refusal, Snapshot, Timespec};
+use tk_clock::{Clock, Refusal, Snapshot, Timespec};
 use tk_counter::CounterDesc;
 
 /// Keeps the clocks of a counter, steered by a discipline: the kernel's `struct timekeeper` with
@@ -127,8 +127,7 @@ impl SteeredClock {
         ensures { let nanos = nanoseconds (second_time self.now.next) in
             IsTrue result ↔ IsFurther self.now.clock.base Realtime nanos }
     {
-        let time = self.course.next_time();
-        self.snapshot(0).is_further(ClockId::Realtime, time)
+        self.course.is_next_further(&self.clock)
     }
 
     /// Returns the frequency and the tick that the clocks run at.
@@ -151,7 +150,7 @@ impl SteeredClock {
     pub fn second_length(&self) -> i64
         ensures { result ≡ second_length self.now.steering.ntp }
     {
-        self.course.steering.second_length()
+        self.course.second_length()
     }
 
     /// Returns the clocks.

@@ -1,6 +1,7 @@
 //! Finds the reading at which the next second of REALTIME begins.
 ghost use Rattle.std.specs.Prelude.{◌≡◌, ◌<◌, ◌↔◌, true, IsTrue, MatchResult, MatchOption, Some, None, pos};
 ghost use Rattle.tk_clock.specs.declared.clock_id.ClockId.TheVariants.{Realtime};
+ghost use Rattle.tk_clock.specs.Further.{IsFurther};
 ghost use Rattle.tk_clock.specs.Limits.{clock_end};
 ghost use Rattle.tk_clock.specs.Reach.{IsFirstReached, IsNeverReached};
 ghost use Rattle.tk_clock.specs.Time.{nanoseconds};
@@ -120,6 +121,17 @@ impl Course {
             .reading_at(ClockId::Realtime, self.next_time())
     }
 
+    /// Returns whether the next second of REALTIME is further away than `next_second` searches
+    /// (`SteeredClock::is_next_further`).
+    pub fn is_next_further(&self, clock: &Clock) -> bool
+        ensures { let nanos = nanoseconds (second_time self.now.next) in
+            IsTrue result ↔ IsFurther clock.now.base Realtime nanos }
+    {
+        clock
+            .snapshot(0)
+            .is_further(ClockId::Realtime, self.next_time())
+    }
+
     /// Returns a number of cycles: no second is due at readings that are fewer cycles after the last
     /// one. They are those to the beginning of the next second, or one more than the longest gap.
     pub fn cycles_to_second(&self, clock: &Clock) -> u64
@@ -134,7 +146,7 @@ impl Course {
     }
 
     /// Returns the beginning of the second of REALTIME that begins next, as a time.
-    pub(crate) fn next_time(&self) -> Timespec
+    fn next_time(&self) -> Timespec
         ensures { result ≡ second_time self.now.next }
     {
         Timespec {
