@@ -77,5 +77,6 @@ fn is_small(lag: i128, desc: CounterDesc) -> bool
     let upper = ((lag + BIAS) as u128 / WORD) as u64;
     // the greatest lag is more than this many times 2^64
     let near = desc.second() / 32;
-    MIDDLE - near <= upper && upper < MIDDLE + near
+    // a number below `MIDDLE - near` wraps, so one test is enough
+    upper.wrapping_sub(MIDDLE - near) < 2 * near
 }
