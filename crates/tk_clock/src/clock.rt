@@ -1,4 +1,4 @@
-ghost use Rattle.std.specs.Prelude.{◌≡◌, ◌≤◌, ◌⊎◌, true, false, MatchResult, Some, None};
+ghost use Rattle.std.specs.Prelude.{◌≡◌, ◌≤◌, ◌⊎◌, true, false, MatchOption, MatchResult, Some, None};
 
 mod change_counter;
 mod effects;
@@ -7,6 +7,7 @@ mod settings;
 mod uptime;
 
 use crate::amount::Amount;
+use crate::clock_id::ClockId;
 use crate::command::Command;
 use crate::limits::{is_settable, is_well_formed};
 use crate::read_base::ReadBase;
@@ -50,6 +51,8 @@ impl Clock {
     ghost use Rattle.tk_clock.specs.Refusal.{opening_refusal, early_refusal, state_value_refusal, state_refusal};
     ghost use Rattle.tk_clock.specs.State.{state_of, effect};
     ghost use Rattle.tk_clock.specs.Effect.{IsForwarded, IsEarly};
+    ghost use Rattle.tk_clock.specs.Reach.{IsFirstReached, IsNeverReached};
+    ghost use Rattle.tk_clock.specs.Time.{nanoseconds};
 
     /// Opens the clocks of the counter `desc` at `reading`, in cycles. They are awake and at their
     /// usual rate, MONOTONIC is 0 and REALTIME is `real`.
@@ -234,5 +237,16 @@ impl Clock {
             front,
             base: self.base,
         }
+    }
+
+    /// Returns the first reading, in cycles, at which a clock has reached `time`, as
+    /// `Snapshot::reading_at` does, but without a copy of the clocks.
+    pub fn reading_at(&self, clock: ClockId, time: Timespec) -> Option<u64>
+        ensures { let nanos = nanoseconds time in
+            MatchOption result
+            (IsNeverReached self.now.base clock nanos)
+            (λ reading. IsFirstReached self.now.base clock nanos reading) }
+    {
+        self.base.reading_at(clock, time)
     }
 }

@@ -116,9 +116,7 @@ impl Course {
             (IsNeverReached clock.now.base Realtime nanos)
             (λ reading. IsFirstReached clock.now.base Realtime nanos reading) }
     {
-        clock
-            .snapshot(0)
-            .reading_at(ClockId::Realtime, self.next_time())
+        clock.reading_at(ClockId::Realtime, self.next_time())
     }
 
     /// Returns whether the next second of REALTIME is further away than `next_second` searches
