@@ -12,7 +12,7 @@
 
 enum { LOCK_NAP_NANOS = 20000 }; /* between two tries to take the lock */
 
-static struct tkc_ntp *present_clocks(struct control *control)
+static const struct called *present_clocks(struct control *control)
 {
 	return &control->clocks[atomic_load(&control->present) % 2];
 }
@@ -42,7 +42,8 @@ static void store_lines(struct shared_lines *lines, const struct tkc_snapshot *s
  * second and their lines, too. */
 static void publish(struct machine *machine)
 {
-	struct tkc_ntp *clocks = present_clocks(machine->control);
+	const struct called *called = present_clocks(machine->control);
+	const struct tkc_ntp *clocks = &called->ntp;
 	struct tkc_page *page = &machine->shared->page;
 	uint64_t sequence = atomic_load(&page->sequence) | 1, reading = 0;
 	struct next_second *next =
@@ -55,6 +56,7 @@ static void publish(struct machine *machine)
 	leap = leap_of(clocks);
 	atomic_store(&next->reading, reading);
 	atomic_store(&next->is_known, is_known);
+	atomic_store(&next->calls, called->calls);
 	store_lines(&machine->shared->lines[(sequence + 1) / 2 % 2], &snapshot);
 	was = atomic_exchange(&machine->shared->leap, leap);
 	tkc_page_publish(page, &snapshot);
@@ -66,7 +68,7 @@ void machine_init_clocks(struct machine *machine, const struct tkc_ntp *clocks)
 {
 	struct tkc_snapshot snapshot;
 
-	machine->control->clocks[0] = *clocks;
+	machine->control->clocks[0] = (struct called){ .ntp = *clocks };
 	tkc_ntp_snapshot(&snapshot, clocks);
 	tkc_page_init(&machine->shared->page, &snapshot);
 	tkc_page_begin(&machine->shared->page);
@@ -132,7 +134,7 @@ void machine_try_recover(struct machine *machine)
 /* Records what became of orders at a reading: all of them if they were
  * accepted, or a single one that was refused. */
 static void record_orders(struct machine *machine, const struct order *orders,
-			  size_t count, enum tkc_code code, uint64_t front,
+			  size_t count, enum tkc_code code, uint64_t calls,
 			  uint64_t reading)
 {
 	if (!machine->control->rows.every || (code && count > 1))
@@ -141,7 +143,7 @@ static void record_orders(struct machine *machine, const struct order *orders,
 		struct record_row row = { .kind = orders[i].command,
 					  .code = code,
 					  .nsec = orders[i].nsec,
-					  .front = front - (count - 1 - i),
+					  .calls = calls - (count - 1 - i),
 					  .reading = reading,
 					  .number = orders[i].number };
 
@@ -149,17 +151,9 @@ static void record_orders(struct machine *machine, const struct order *orders,
 	}
 }
 
-static uint64_t front_of(const struct tkc_ntp *clocks)
-{
-	struct tkc_snapshot snapshot;
-
-	tkc_ntp_snapshot(&snapshot, clocks);
-	return tkc_snapshot_front(&snapshot);
-}
-
 /* Makes changed clocks the clocks of all, by one store. */
 static void switch_clocks(struct machine *machine,
-			  const struct tkc_ntp *changed)
+			  const struct called *changed)
 {
 	struct control *control = machine->control;
 	uint32_t other = atomic_load(&control->present) + 1;
@@ -179,7 +173,7 @@ static bool is_steering(uint32_t command)
 enum tkc_code machine_apply(struct machine *machine, const struct order *orders,
 			    size_t count)
 {
-	struct tkc_ntp changed = *present_clocks(machine->control);
+	struct called changed = *present_clocks(machine->control);
 	enum tkc_code code = TKC_OK;
 	bool is_update = true, is_steered = false;
 	uint64_t reading;
@@ -187,17 +181,18 @@ enum tkc_code machine_apply(struct machine *machine, const struct order *orders,
 	tkc_page_begin(&machine->shared->page);
 	reading = machine_reading(machine->shared);
 	for (size_t i = 0; i < count && !code; i++) {
-		code = tkc_ntp_apply(&changed, reading, orders[i].command,
+		code = tkc_ntp_apply(&changed.ntp, reading, orders[i].command,
 				     orders[i].number, orders[i].nsec);
 		is_update = is_update && orders[i].command == TKC_CMD_UPDATE;
 		is_steered = is_steered || is_steering(orders[i].command);
 	}
 	if (code)
 		changed = *present_clocks(machine->control);
-	else if (is_steered)
+	else
+		changed.calls += count;
+	if (!code && is_steered)
 		rows_steer(&machine->control->rows);
-	record_orders(machine, orders, count, code, front_of(&changed),
-		      reading);
+	record_orders(machine, orders, count, code, changed.calls, reading);
 	if (!code)
 		switch_clocks(machine, &changed);
 	publish(machine);
@@ -214,17 +209,17 @@ enum tkc_code machine_adjust(struct machine *machine, struct timex *timex,
 			     uint32_t *state)
 {
 	struct control *control = machine->control;
-	struct tkc_ntp changed = *present_clocks(control);
+	struct called changed = *present_clocks(control);
 	bool only_reads = request_only_reads(timex);
 	struct record_row row = { .kind = only_reads ? ROW_ASK : ROW_REQUEST };
 	struct timex in = *timex;
 
 	tkc_page_begin(&machine->shared->page);
 	row.reading = machine_reading(machine->shared);
-	row.code = tkc_adjtimex((struct tkc_timex *)timex, state, &changed,
+	row.code = tkc_adjtimex((struct tkc_timex *)timex, state, &changed.ntp,
 				row.reading);
-	row.front = front_of(row.code || only_reads ? present_clocks(control)
-						    : &changed);
+	changed.calls += !row.code && !only_reads;
+	row.calls = changed.calls;
 	rows_add_request(machine, &row, &in, timex, *state);
 	if (!row.code && !only_reads)
 		switch_clocks(machine, &changed);

@@ -20,7 +20,7 @@ struct coarse {
 /* A snapshot that is kept as long as the page's sequence stays, with the lines
  * of the clocks that were read. The others have no span. */
 struct kept {
-	uint64_t sequence, front;
+	uint64_t sequence, calls; /* that the clocks had accepted */
 	uint64_t next; /* the reading at which the next second begins */
 	bool has_next;
 	struct tkc_snapshot snapshot;
@@ -39,7 +39,6 @@ SELDOM static enum tkc_code keep(struct kept *kept, uint64_t sequence,
 	code = tkc_words_checked(&kept->snapshot, words);
 	if (code)
 		return code;
-	kept->front = tkc_snapshot_front(&kept->snapshot);
 	kept->real.code = tkc_snapshot_get(&kept->real.time, &kept->snapshot,
 					   TKC_CLOCK_REALTIME_COARSE, 0);
 	kept->monotonic.code =

@@ -68,6 +68,7 @@ static inline void load_copy(const struct shared_page *shared,
 	kept->next = atomic_load_explicit(&next->reading, memory_order_relaxed);
 	kept->has_next =
 		atomic_load_explicit(&next->is_known, memory_order_relaxed);
+	kept->calls = atomic_load_explicit(&next->calls, memory_order_relaxed);
 }
 
 /* tkc_page_look, with a snapshot that is made only after a command. */
@@ -115,7 +116,7 @@ static void record_read(struct machine *machine, uint32_t clock,
 {
 	struct record_row row = { .kind = ROW_READ + clock,
 				  .code = code,
-				  .front = kept->front,
+				  .calls = kept->calls,
 				  .reading = reading };
 	struct rows *rows = &machine->control->rows;
 

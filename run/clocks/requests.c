@@ -62,7 +62,7 @@ struct asked_words request_words(const struct timex *request)
 	};
 }
 
-/* One that only reads leaves no separate front. */
+/* One that only reads has no separate number. */
 void rows_add_request(struct machine *machine, const struct record_row *row,
 		      const struct timex *in, const struct timex *out,
 		      uint32_t state)

@@ -108,7 +108,7 @@ static void put_row(struct record_row *slot, const struct record_row *row)
 	slot->kind = row->kind;
 	slot->code = row->code;
 	slot->nsec = row->nsec;
-	slot->front = row->front;
+	slot->calls = row->calls;
 	slot->reading = row->reading;
 	slot->number = row->number;
 	atomic_store_explicit(&slot->is_ready, 1, memory_order_release);

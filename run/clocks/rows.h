@@ -16,14 +16,14 @@ enum {
 
 /*
  * A row. `kind` is a command (enum tkc_command), or ROW_READ plus a clock. A
- * read has the front of the snapshot that was read, and its time in `number`
- * and `nsec`. A command that was accepted has its own front, and one that was
- * refused the front it left. `is_ready` is stored last.
+ * read has the number of calls that the clocks had accepted, and its time in `number`
+ * and `nsec`. A command that was accepted has its own number among them, and one that
+ * was refused the number of those before it. `is_ready` is stored last.
  */
 struct record_row {
 	_Atomic uint32_t is_ready;
 	uint32_t kind, code, nsec;
-	uint64_t front, reading;
+	uint64_t calls, reading;
 	int64_t number;
 };
 

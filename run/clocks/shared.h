@@ -16,7 +16,7 @@
 #include <tkcore_page.h>
 
 enum {
-	MACHINE_LAYOUT = 0x746b7205,
+	MACHINE_LAYOUT = 0x746b7206,
 	WAITERS_MOST = 32768,
 };
 
@@ -25,9 +25,10 @@ enum {
 enum counter_kind { COUNTER_RAW, COUNTER_TSC, COUNTER_SLEEPS };
 
 /* The reading at which the next second of REALTIME begins, if the counter gets
- * there. The discipline may change the rate then. */
+ * there. The discipline may change the rate then. `calls` is the number of calls that the
+ * clocks had accepted. */
 struct next_second {
-	_Atomic uint64_t reading, is_known;
+	_Atomic uint64_t reading, is_known, calls;
 };
 
 /* The numbers of a tkc_line, for readers that can keep none. Its last word is the multiplier and
@@ -174,9 +175,16 @@ struct read_steps {
 	} of[READ_STEPS_MOST];
 };
 
+/* Clocks, and the number of calls that they accepted. Their front is the number of commands: a call
+ * makes none, one or several. */
+struct called {
+	struct tkc_ntp ntp;
+	uint64_t calls;
+};
+
 struct control {
 	_Alignas(64) pthread_mutex_t lock;
-	struct tkc_ntp clocks[2];
+	struct called clocks[2];
 	_Atomic uint32_t present; /* which of them are the clocks */
 	_Atomic int32_t zone[2]; /* the time zone of settimeofday */
 	_Atomic uint64_t accepted, refused, reads, recovered;

@@ -118,7 +118,7 @@ static int compare_readings(const struct record_row *a,
 	return first < second ? -1 : 1;
 }
 
-/* Orders rows by their fronts. A command comes before the reads that saw it, and
+/* Orders rows by the numbers of accepted calls. A command comes before the reads that saw it, and
  * these are in the order of their readings: a request that only reads lets the
  * seconds up to its reading begin. Else the order of the file stays. */
 static int compare_rows(const void *first, const void *second)
@@ -126,8 +126,8 @@ static int compare_rows(const void *first, const void *second)
 	const struct record_row *a = *(const struct record_row *const *)first;
 	const struct record_row *b = *(const struct record_row *const *)second;
 
-	if (a->front != b->front)
-		return a->front < b->front ? -1 : 1;
+	if (a->calls != b->calls)
+		return a->calls < b->calls ? -1 : 1;
 	if (is_accepted(a) != is_accepted(b))
 		return is_accepted(a) ? -1 : 1;
 	if (!is_accepted(a) && compare_readings(a, b))
@@ -171,10 +171,10 @@ static uint64_t rows_after(const struct record_row *row, bool has_readers)
 
 /*
  * Lists the rows that are to be replayed. A command that was never published,
- * because its writer died, isn't one: a later command has its front, or none.
+ * because its writer died, isn't one: a later command has its number, or none.
  */
 static bool list_rows(struct list *list, const struct record_row *rows,
-		      uint64_t count, uint64_t front, bool has_readers)
+		      uint64_t count, uint64_t calls, bool has_readers)
 {
 	uint64_t kept = 0;
 
@@ -183,7 +183,7 @@ static bool list_rows(struct list *list, const struct record_row *rows,
 	if (!list->rows)
 		return false;
 	for (uint64_t i = 0; i < count; i++) {
-		if (is_whole(&rows[i]) && rows[i].front <= front &&
+		if (is_whole(&rows[i]) && rows[i].calls <= calls &&
 		    i + rows_after(&rows[i], has_readers) < count)
 			list->rows[list->count++] = &rows[i];
 	}
@@ -191,7 +191,7 @@ static bool list_rows(struct list *list, const struct record_row *rows,
 	for (uint64_t i = 0; i < list->count; i++) {
 		if (i + 1 < list->count && is_accepted(list->rows[i]) &&
 		    is_accepted(list->rows[i + 1]) &&
-		    list->rows[i]->front == list->rows[i + 1]->front)
+		    list->rows[i]->calls == list->rows[i + 1]->calls)
 			continue;
 		list->rows[kept++] = list->rows[i];
 	}
@@ -203,25 +203,24 @@ static bool list_rows(struct list *list, const struct record_row *rows,
  * depend on it. Returns the number of this command, or 0 if none is missing. */
 static uint64_t end_at_gap(struct list *list)
 {
-	uint64_t front = 0; /* of the opening */
+	uint64_t calls = 0; /* at the opening */
 
 	for (uint64_t i = 0; i < list->count; i++) {
-		front += is_accepted(list->rows[i]);
-		if (list->rows[i]->front != front) {
+		calls += is_accepted(list->rows[i]);
+		if (list->rows[i]->calls != calls) {
 			list->count = i;
-			return is_accepted(list->rows[i]) ? front : front + 1;
+			return is_accepted(list->rows[i]) ? calls : calls + 1;
 		}
 	}
 	return 0;
 }
 
-static uint64_t front_of(const struct machine *machine)
+/* Returns the number of calls that the present clocks have accepted. */
+static uint64_t calls_of(const struct machine *machine)
 {
-	struct tkc_snapshot snapshot;
+	const struct control *control = machine->control;
 
-	if (tkc_page_read(&machine->shared->page, &snapshot))
-		return 0;
-	return tkc_snapshot_front(&snapshot);
+	return control->clocks[atomic_load(&control->present) % 2].calls;
 }
 
 bool recording_write(struct recording *recording, struct machine *machine,
@@ -242,7 +241,7 @@ bool recording_write(struct recording *recording, struct machine *machine,
 		memory = mmap(NULL, count * sizeof(*memory), PROT_READ,
 			      MAP_SHARED, recording->rows_file, 0);
 	if (memory == MAP_FAILED ||
-	    !list_rows(list, memory, count, front_of(machine),
+	    !list_rows(list, memory, count, calls_of(machine),
 		       recording->has_readers))
 		error = ENOMEM;
 	if (!error) {
