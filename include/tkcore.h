@@ -41,9 +41,11 @@
  *   - REALTIME can be set to times below 8277292036 s (TIME_SETTOD_SEC_MAX). These three constants
  *     are in include/linux/time64.h and ktime.h.
  *   - The front of clocks is the number of commands that they have accepted. A change of counter is
- *     one of them. The front is 0 after tkc_clock_open and tkc_clock_open_at. Clocks whose front is
- *     2^63 - 1 or more refuse every command with TKC_FULL. The front of a tkc_ntp is the number of
- *     accepted calls. Only words can make clocks with a front above 2^63 - 1
+ *     one of them, and so is each command that a discipline issues to the clocks of a tkc_ntp. The
+ *     front is 0 after each call that opens clocks. Clocks whose front is 2^63 - 1 or more refuse
+ *     every command with TKC_FULL. A call on a tkc_ntp returns TKC_FULL if its front leaves no room
+ *     for the commands that may follow: a second of REALTIME and a command need room for 3, a
+ *     request for 6. Only words can make clocks with a front above 2^63 - 1
  *     (tkc_clock_from_words, tkc_clock_load, tkc_ntp_load).
  *   - A reading is behind the last command's reading if it is more than half of 2^bits - 1 cycles
  *     ahead of it (clocksource_delta in kernel/time/timekeeping_internal.h). So apply at least one
@@ -171,7 +173,8 @@ enum tkc_code {
 	 * arguments; BEHIND; RANGE; INVALID for the resulting REALTIME. A read is tested for
 	 * INVALID and then for RANGE. */
 
-	/* The front is 2^63 - 1 or more: no further command or call can be counted. */
+	/* The front is 2^63 - 1 or more: no further command can be counted. Of steered clocks it is
+	 * 2^63 - 3 or more, or 2^63 - 6 or more for a request. */
 	TKC_FULL = 1,
 	/* The clocks are asleep after a SUSPEND, and the command is not RESUME. */
 	TKC_ASLEEP = 2,
@@ -813,15 +816,16 @@ enum tkc_code tkc_clock_load(struct tkc_clock *out, const uint64_t words[TKC_SAV
  *
  * tkc_ntp_advance, tkc_adjtimex and, except for RESUME, tkc_ntp_apply first advance to their
  * reading: each second of REALTIME that has begun since the last call begins at its own reading,
- * with its leap second and its rate. So advancing often or seldom leaves the same clocks, apart from
- * the front, if no call is refused. At the reading of a call, MONOTONIC may be less than a snapshot
- * from before that call gives there. If others read the clocks meanwhile, call tkc_ntp_advance_late
- * before each of these calls, at the same reading: then no second is due any more, and MONOTONIC
- * doesn't go back.
+ * with its leap second and its rate. So advancing often or seldom leaves the same clocks with the
+ * same front, if no call is refused. At the reading of a call, MONOTONIC may be less than a
+ * snapshot from before that call gives there. If others read the clocks meanwhile, call
+ * tkc_ntp_advance_late before each of these calls, at the same reading: then no second is due any
+ * more, and MONOTONIC doesn't go back.
  * Readers in other threads should get a new snapshot for each second: set a timer to
  * tkc_ntp_next_second.
  *
- * A call issues a command to the clocks only if their rate, their time or the TAI offset changes.
+ * The front counts each command that the clocks accept, as the journal of tkcore does. A call
+ * issues a command to the clocks only if their rate, their time or the TAI offset changes.
  * docs/NTP.md, "The exact rate", has the formulas. So apply TKC_CMD_UPDATE with tkc_ntp_apply at
  * least once in each half of the counter's range. Otherwise a reading is treated as behind, and
  * tkc_ntp_next_second finds no reading.
@@ -852,44 +856,49 @@ enum tkc_code tkc_ntp_open_at(struct tkc_ntp *out, const struct tkc_counter *cou
 			      uint32_t uptime_nsec, uint32_t hz);
 
 /*
- * Begins each second of REALTIME up to the reading (second_overflow in kernel/time/ntp.c), and adds
- * 1 to the front. Use tkc_ntp_advance_late if others may have read the clocks between the beginning
- * of such a second and this call.
+ * Begins each second of REALTIME up to the reading (second_overflow in kernel/time/ntp.c). A second
+ * adds up to 3 to the front: 1 for its leap, and 1 each for a new tick and a new frequency. If no
+ * second is due, nothing changes. Use tkc_ntp_advance_late if others may have read the clocks
+ * between the beginning of such a second and this call.
  *
- * Returns, in this order, and changes nothing then:
- *   TKC_FULL     the front is 2^63 - 1 or more
+ * Returns, in this order, and changes nothing then, except at TKC_FULL:
  *   TKC_ASLEEP   the clocks are asleep
  *   TKC_INVALID  the reading is above 2^bits - 1
  *   TKC_BEHIND   the reading is behind the last command's
  *   TKC_RANGE    a clock would be at or past its limit
  *   TKC_BEHIND   the reading is behind the beginning of the present second, or the last request
  *                with modes and without TKC_ADJ_ADJTIME
+ *   TKC_FULL     the front is 2^63 - 3 or more where a second is due: the seconds before it have
+ *                begun, and it hasn't
  */
 TKC_MUST_CHECK
 enum tkc_code tkc_ntp_advance(struct tkc_ntp *ntp, uint64_t reading);
 
 /*
- * Begins each second of REALTIME up to the reading, and adds 1 to the front, as tkc_ntp_advance
- * does, but issues all commands to the clocks at the reading (as timekeeping_advance does at a
- * tick). It is for clocks that others read meanwhile: at the reading, the snapshots from before and
- * after the call give the same MONOTONIC. So it doesn't go back for readers that use the former
- * snapshot only up to the reading. A leap moves REALTIME at the reading.
+ * Begins each second of REALTIME up to the reading, as tkc_ntp_advance does, but issues all
+ * commands to the clocks at the reading (as timekeeping_advance does at a tick). It is for clocks
+ * that others read meanwhile: at the reading, the snapshots from before and after the call give the
+ * same MONOTONIC. So it doesn't go back for readers that use the former snapshot only up to the
+ * reading. A leap moves REALTIME at the reading.
  *
  * For the discipline the second still begins at its own reading. Later seconds make up for what the
  * former rate added too much or too little since then. If several seconds are due, the first lasts
  * up to the reading, and the others begin there. The phases of those between the first and the last
  * are lost, as in the kernel.
  *
- * Returns the codes of tkc_ntp_advance, in the same order, and changes nothing then.
+ * Returns the codes of tkc_ntp_advance, in the same order, and changes nothing then, except at
+ * TKC_FULL.
  */
 TKC_MUST_CHECK
 enum tkc_code tkc_ntp_advance_late(struct tkc_ntp *ntp, uint64_t reading);
 
 /*
- * Advances to the reading, applies a command of tkc_clock_apply to the steered clocks, and adds 1
- * to the front if it is accepted:
+ * Advances to the reading, and applies a command of tkc_clock_apply to the steered clocks:
  *   - FREQ and TICK are requests: TKC_ADJ_FREQUENCY with the frequency clamped to 32768000 in
- *     either direction, and TKC_ADJ_TICK. The discipline then keeps steering.
+ *     either direction, and TKC_ADJ_TICK. The discipline then keeps steering. They add to the front
+ *     what tkc_adjtimex does: 0, if the clocks keep their rate.
+ *   - Any other accepted command adds 1 to the front, and SET_TIME, STEP, LEAP and RESUME up to 2
+ *     more, for the rate of the second in which the clocks are then.
  *   - SET_TIME, STEP and LEAP clear the discipline (ntp_clear in kernel/time/ntp.c): the phase, the
  *     rest of adjtime, the errors and the second of a leap are forgotten.
  *   - The seconds that SET_TIME, STEP, LEAP and RESUME jump over never begin, and no leap second of
@@ -897,10 +906,12 @@ enum tkc_code tkc_ntp_advance_late(struct tkc_ntp *ntp, uint64_t reading);
  *
  * Returns, in this order:
  *   TKC_BAD_COMMAND  no command has the number: nothing has changed
- *   TKC_FULL         the front is 2^63 - 1 or more: nothing has changed
  *   TKC_INVALID      a TICK is out of its range: nothing has changed
  *   TKC_ASLEEP, TKC_INVALID, TKC_BEHIND or TKC_RANGE
  *                    as tkc_ntp_advance, if the command is not RESUME: nothing has changed
+ *   TKC_FULL         the front is 2^63 - 3 or more where a second is due, or the seconds up to the
+ *                    reading have begun: the second, or the command, needs room for 3. FREQ and
+ *                    TICK need room for 6, so for them it is 2^63 - 6
  *   as tkc_clock_apply
  *                    the clocks refuse the command: they have only advanced, and a refused
  *                    RESUME changes nothing
@@ -912,20 +923,23 @@ enum tkc_code tkc_ntp_apply(struct tkc_ntp *ntp, uint64_t reading, uint32_t comm
 /*
  * Advances to the reading, does what a request asks for, and writes the reply into the same struct
  * (do_adjtimex, and __do_adjtimex in kernel/time/ntp.c; adjtimex(2)). *state becomes the number of
- * enum tkc_time_state that adjtimex(2) returns. Adds 1 to the front. Any struct may be passed: its
- * fields are tested.
+ * enum tkc_time_state that adjtimex(2) returns. Any struct may be passed: its fields are tested.
+ *
+ * A request adds up to 6 to the front: 1 for a step, up to 2 for the tick and the frequency after
+ * it, 1 for another TAI offset, and up to 2 for the tick and the frequency that it leads to.
  *
  * Returns, in this order, and writes neither *timex nor *state then:
- *   TKC_FULL     the front is 2^63 - 1 or more
  *   TKC_INVALID  TKC_ADJ_ADJTIME without TKC_ADJ_OFFSET; or without TKC_ADJ_ADJTIME a tick out of
  *                its range; or a step or a frequency out of its range (enum tkc_adj)
  *   TKC_ASLEEP, TKC_INVALID, TKC_BEHIND or TKC_RANGE
  *                as tkc_ntp_advance
+ *   TKC_FULL     the front is 2^63 - 3 or more where a second is due, or 2^63 - 6 or more after
+ *                the seconds up to the reading have begun
  *   as tkc_clock_apply
  *                the clocks refuse the step of TKC_ADJ_SETOFFSET: they have only advanced
  *   TKC_RANGE    REALTIME, or TAI with the offset of TKC_ADJ_TAI, would be at or past its limit:
  *                the clocks have advanced, and made the step if there is one
- * In the first three cases nothing has changed.
+ * In the first two cases nothing has changed.
  */
 TKC_MUST_CHECK
 enum tkc_code tkc_adjtimex(struct tkc_timex *timex, uint32_t *state, struct tkc_ntp *ntp,

@@ -2,8 +2,8 @@
 /*
  * steered.js - clocks of a script that a discipline steers.
  *
- * A report counts the commands that the discipline gives. The library counts calls only, so each
- * second begins by its own call, and the commands follow from the numbers before and after it.
+ * A report counts the commands that the discipline gives, as the front of the clocks does. Each
+ * second begins by its own call, since tkcore's journal must have room for its commands.
  */
 import { Clocks, LISTED_MOST } from './clocks.js';
 import { BYTES, COMMANDS, FULL, INVALID, NANOS, NTP_WORDS } from './library.js';
@@ -12,9 +12,8 @@ import { BYTES, COMMANDS, FULL, INVALID, NANOS, NTP_WORDS } from './library.js';
 const SECOND_MOST = 3, REQUEST_MOST = 6;
 
 /** Places in the words of tkc_ntp_save. */
-const IN_FORCE = 2, MONO_SEC = 4, REAL_OFFSET = 5, TAI = 7, RAW_FRAC = 8, RAW_SEC = 9, BITS = 10,
-    MULT = 11, SHIFT = 12, FREQUENCY = 13, TICK = 14, HZ = 15, ASKED_TICK = 24, GAIN = 25,
-    PHASE = 28, LAG_HIGH = 29, LAG_LOW = 30, NEXT = 31, MARK = 32;
+const IN_FORCE = 2, BITS = 10, MULT = 11, SHIFT = 12, HZ = 15, ASKED_TICK = 24, GAIN = 25,
+    PHASE = 28, LAG_HIGH = 29, LAG_LOW = 30, MARK = 32;
 const UNITS = 1n << 32n, LEAST_LAG = -(1n << 124n); // of lengths in a nanosecond; words 29 and 30
 
 /** Bits of a request's modes. */
@@ -40,11 +39,6 @@ function isFaulty(modes, freq, tick, sub) {
     return Boolean(modes & ADJ.frequency) && (freq > FREQUENCY_MOST || freq < -FREQUENCY_MOST);
 }
 
-/** How many commands of tick and frequency lead from some words to others. */
-function ratesBetween(before, after) {
-    return Number(before[TICK] !== after[TICK]) + Number(before[FREQUENCY] !== after[FREQUENCY]);
-}
-
 /**
  * Accounts for the cycles from the mark to a reading (docs/NTP.md, "The exact rate", equations 1
  * and 2). The library does so as a second begins, but refuses a reading behind the mark. Only an
@@ -63,20 +57,13 @@ function account(words, at) {
     words[MARK] = at;
 }
 
-/** How many commands a second gave: its leap too. */
-function commandsBetween(before, after) {
-    return Number(before[REAL_OFFSET] !== after[REAL_OFFSET]) + ratesBetween(before, after);
-}
-
 export class SteeredClocks extends Clocks {
     constructor(library, counter, watcher) {
         super(library, counter, watcher);
         this.ntp = library.reserve(BYTES.ntp);
         this.trial = library.reserve(BYTES.ntp);
-        this.trialSnapshot = library.reserve(BYTES.snapshot);
         this.timex = library.reserve(BYTES.timex);
         this.state = library.reserve(4);
-        this.accepted = 0n;
     }
 
     open([, , , reading, sec, nsec, hz]) {
@@ -86,7 +73,6 @@ export class SteeredClocks extends Clocks {
 
     /** Continues steered clocks. The library stored their words. */
     resume() {
-        this.accepted = this.library.word(this.library.words);
         return this.opened(this.calls.tkc_ntp_load(this.ntp, this.library.words));
     }
 
@@ -94,13 +80,11 @@ export class SteeredClocks extends Clocks {
         this.calls.tkc_ntp_snapshot(out, this.ntp);
     }
 
-    number() {
-        return this.accepted;
-    }
-
-    count(commands) {
-        this.accepted += BigInt(commands);
-        this.listed += commands;
+    /** Lists the commands that the clocks have accepted since the snapshot. */
+    take(word, reading) {
+        const before = this.number();
+        super.take(word, reading);
+        this.listed += Number(this.number() - before);
     }
 
     /** Returns the words of steered clocks. */
@@ -135,20 +119,16 @@ export class SteeredClocks extends Clocks {
                 account(before, at);
                 this.load(this.ntp, before);
             }
-            const others = this.othersAt(this.ntp, before, at) > 0n;
-            const commands = others ? this.commandsOfSeconds(at) : 0;
-            const after = this.advance(this.ntp, at);
-            this.count(others ? commands : commandsBetween(before, after));
+            this.advance(at);
             this.take('second', at);
         }
         return 0;
     }
 
-    /** Lets the seconds up to a reading begin, which isn't refused. Returns the words then. */
-    advance(ntp, reading) {
-        if (this.calls.tkc_ntp_advance(ntp, reading))
+    /** Lets the seconds up to a reading begin, which isn't refused. */
+    advance(reading) {
+        if (this.calls.tkc_ntp_advance(this.ntp, reading))
             throw new Error('a second that is due cannot begin');
-        return this.wordsOf(ntp);
     }
 
     load(ntp, words) {
@@ -167,38 +147,6 @@ export class SteeredClocks extends Clocks {
         return gap(at) <= gap(reading) ? at : null;
     }
 
-    /** Returns how many seconds begin at a reading after the next one, if a cycle is that long. */
-    othersAt(ntp, words, at) {
-        this.calls.tkc_ntp_snapshot(this.trialSnapshot, ntp);
-        const real = this.library.get(this.trialSnapshot, 'realtime', at);
-        return real.code ? 0n : real.sec - words[NEXT];
-    }
-
-    /**
-     * Counts the commands of seconds that begin at one reading, on a copy. There the clocks are set
-     * back for each second by the seconds that follow it, so that it begins alone.
-     */
-    commandsOfSeconds(at) {
-        let words = this.wordsOf(this.ntp), commands = 0;
-        for (let others = this.othersAt(this.ntp, words, at); others >= 0n;
-            others = this.othersAt(this.trial, words, at)) {
-            const mono = others < words[MONO_SEC] ? others : words[MONO_SEC];
-            const most = words[REAL_OFFSET] / NANOS;
-            const real = (others - mono < most ? others - mono : most) * NANOS;
-            const back = words.slice();
-            back[MONO_SEC] -= mono;
-            back[REAL_OFFSET] -= real;
-            back[RAW_FRAC] = back[RAW_SEC] = 0n;
-            this.load(this.trial, back);
-            words = this.advance(this.trial, at);
-            commands += commandsBetween(back, words);
-            words[MONO_SEC] += mono;
-            words[REAL_OFFSET] += real;
-            this.load(this.trial, words);
-        }
-        return commands;
-    }
-
     carryOut(word, values) {
         const [reading] = values, isRequest = ['adjtimex', 'freq', 'tick'].includes(word);
         if (word === 'counter' || this.isRefusedAlways(word, values))
@@ -208,7 +156,7 @@ export class SteeredClocks extends Clocks {
             return code;
         if (this.listed + (isRequest ? REQUEST_MOST : SECOND_MOST) > LISTED_MOST)
             return FULL;
-        return word === 'adjtimex' ? this.ask(values) : this.apply(word, values, isRequest);
+        return word === 'adjtimex' ? this.ask(values) : this.apply(word, values);
     }
 
     isRefusedAlways(word, values) {
@@ -217,14 +165,11 @@ export class SteeredClocks extends Clocks {
         return word === 'adjtimex' && isFaulty(Number(values[1]), values[3], values[8], values[10]);
     }
 
-    apply(word, [reading, number = 0n, nsec = 0n], isRequest) {
-        const before = this.wordsOf(this.ntp);
+    apply(word, [reading, number = 0n, nsec = 0n]) {
         const code = this.calls.tkc_ntp_apply(this.ntp, reading, COMMANDS.get(word), number,
             Number(nsec));
-        if (!code) {
-            this.count(Number(!isRequest) + ratesBetween(before, this.wordsOf(this.ntp)));
+        if (!code)
             this.take(word, reading);
-        }
         return code;
     }
 
@@ -232,27 +177,10 @@ export class SteeredClocks extends Clocks {
     ask([reading, modes, offset, freq, maxerror, esterror, status, constant, tick, sec, sub]) {
         this.fillTimex({ offset, freq, maxerror, esterror, constant, tick, sec, sub },
             Number(modes), Number(status));
-        let before = this.wordsOf(this.ntp), commands = 0;
-        if (Number(modes) & ADJ.setoffset) {
-            const unit = Number(modes) & ADJ.nano ? 1n : 1000n;
-            const after = this.steppedWords(reading, sec, sub * unit);
-            commands = 1 + ratesBetween(before, after);
-            before = after;
-        }
         const code = this.calls.tkc_adjtimex(this.timex, this.state, this.ntp, reading);
-        if (!code) {
-            const after = this.wordsOf(this.ntp);
-            this.count(commands + Number(before[TAI] !== after[TAI]) + ratesBetween(before, after));
+        if (!code)
             this.take('adjtimex', reading);
-        }
         return code;
-    }
-
-    /** Returns the words after a step, which is tried on a copy. */
-    steppedWords(reading, sec, nsec) {
-        this.library.copy(this.trial, this.ntp, BYTES.ntp);
-        this.calls.tkc_ntp_apply(this.trial, reading, COMMANDS.get('step'), sec, Number(nsec));
-        return this.wordsOf(this.trial);
     }
 
     fillTimex(fields, modes, status) {
@@ -273,6 +201,6 @@ export class SteeredClocks extends Clocks {
         return ['adj', STATES[view.getUint32(Number(this.state), true)], `${long('sec')}.${sub}`,
             long('offset'), long('freq'), long('maxerror'), long('esterror'), status,
             long('constant'), long('tick'), view.getUint32(at + TIMEX.tai, true),
-            this.accepted].join(',');
+            this.number()].join(',');
     }
 }

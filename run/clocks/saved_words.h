@@ -7,12 +7,10 @@
 #include <stdbool.h>
 
 enum saved_word {
-	SAVED_FRONT = 0,
 	SAVED_LAST = 1,	     /* the reading of the last command */
 	SAVED_PART = 3,	     /* MONOTONIC's ns there, in 2^-shift ns */
 	SAVED_SECOND = 4,    /* MONOTONIC's second there */
 	SAVED_REAL_OFFSET = 5,
-	SAVED_TAI = 7,
 	SAVED_SHIFT = 12,    /* of the counter */
 	SAVED_FREQUENCY = 13,
 	SAVED_TICK = 14,

@@ -195,15 +195,14 @@ static void open_record(struct followed *followed, const struct steered_script *
 			followed->plan.open_sec * NANOS + followed->plan.open_nsec;
 }
 
-/* Returns whether a later part begins with the clocks as they are now. Their fronts count something
- * else. */
+/* Returns whether a later part begins with the clocks as they are now. */
 static bool continues(const struct followed *followed, const struct steered_script *script)
 {
 	uint64_t words[TKC_SAVED_WORDS], now[TKC_NTP_SAVED_WORDS];
 
 	tkc_clock_save(words, &script->clock);
 	tkc_ntp_save(now, &followed->plan.clocks);
-	return !memcmp(words + 1, now + 1, sizeof(words) - sizeof(*words));
+	return !memcmp(words, now, sizeof(words));
 }
 
 static void follow_part(struct followed *followed, const char *path, bool is_first)

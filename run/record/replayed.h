@@ -7,8 +7,6 @@
 
 struct replayed {
 	bool is_steered;	/* by a discipline */
-	uint64_t commands;	/* that the clocks were given, if they are steered */
-	struct tkc_counter counter;
 	struct tkc_clock clock; /* if they aren't steered */
 	struct tkc_ntp ntp;	/* if they are */
 };

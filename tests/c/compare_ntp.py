@@ -38,8 +38,6 @@ class Session:
             line = getattr(self, word)(*map(int, numbers))
         except Refused as refused:
             return self.with_words(f"no,TKC_{str(refused).upper()}")
-        if word in ("advance", "late", "apply", "adjtimex", "get"):
-            self.steered.front += 1
         return self.with_words(line)
 
     def with_words(self, line):
@@ -101,6 +99,9 @@ class Session:
         ntp, (by, second) = self.steered.ntp, self.steered.coming_leap()
         return ",".join(map(str, ["asked", by, second, ntp.status, ntp.reply_freq(), ntp.tick]))
 
+    def front(self):
+        return f"front,{self.steered.front}"
+
 
 class Records:
     """Random records about the clocks of a session. Requests are those of ntp.py."""
@@ -129,7 +130,7 @@ class Records:
             return f"get,{self.random.choice(list(CLOCKS))},{self.reading()}"
         if pick < 85:
             return f"{self.random.choice(['advance', 'late'])},{self.reading()}"
-        return self.command() if pick < 95 else self.random.choice(["next", "asked"])
+        return self.command() if pick < 95 else self.random.choice(["next", "asked", "front"])
 
     def request(self, reading, fields):
         return ",".join(map(str, ["adjtimex", reading, *fields]))

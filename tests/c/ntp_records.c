@@ -214,6 +214,14 @@ static void print_asked(const struct session *session, char *line)
 	check(!memcmp(ntp, &before, sizeof(before)));
 }
 
+static void print_front(const struct session *session, char *line)
+{
+	struct tkc_snapshot snapshot;
+
+	tkc_ntp_snapshot(&snapshot, &session->ntp);
+	snprintf(line, LINE_SIZE, "front,%" PRIu64, tkc_snapshot_front(&snapshot));
+}
+
 void answer(struct session *session, const char *text, char line[LINE_SIZE])
 {
 	struct record record = parsed(text);
@@ -234,6 +242,8 @@ void answer(struct session *session, const char *text, char line[LINE_SIZE])
 		print_next(session, line);
 	else if (!strcmp(record.word, "asked"))
 		print_asked(session, line);
+	else if (!strcmp(record.word, "front"))
+		print_front(session, line);
 	else
 		check(!"a record");
 }

@@ -17,6 +17,7 @@
  *	get,CLOCK,READING				at,SEC.NSEC
  *	next						next,READING
  *	asked						asked,BY,SECOND,STATUS,FREQ,TICK
+ *	front						front,COMMANDS
  *
  * PARTS is the discipline's hz. `late` advances with tkc_ntp_advance_late, and
  * `get` advances first with tkc_ntp_advance. BY and SECOND are those of

@@ -5,7 +5,8 @@
  * only where a second began at a tick after its beginning: by at most 1 us in
  * these rows, and by a second at the very midnight of a leap second. Such times
  * are those of tests/model/steered_clock.py. The times of seconds that begin late
- * are computed from the equations of docs/NTP.md.
+ * are computed from the equations of docs/NTP.md. The fronts are the numbers of
+ * commands that steered_clock.py gives its clocks.
  */
 #include "ntp_records.h"
 #include "worked_rows.h"
@@ -310,6 +311,83 @@ static const struct ntp_row late_refused[] = {
 	{ "late,2147483652", "ok" },
 };
 
+/* The front counts commands. Without a phase a second makes none, and requests that
+ * change nothing don't either: a frequency, a tick and a TAI offset that are in force
+ * already. With an offset each of three late seconds needs another frequency. A step
+ * ends the phase, which needs one too. A request makes a step, a TAI offset and a rate
+ * in one call. A refused command isn't counted. */
+static const struct ntp_row fronts[] = {
+	{ "openhz,64,1000000000,600,0,1700000000,500000000,250", "open" },
+	{ "advance,499999999", "ok" },
+	{ "advance,500000000", "ok" },
+	{ "front", "front,0" },
+	{ "apply,600000000,0,0,0", "ok" },
+	{ "front", "front,1" },
+	{ "adjtimex,600000000,0x0,0,0,0,0,0,0,0,0,0",
+	  "adj,error,1700000001.100000,0,0,16000000,16000000,64,2,10000,0" },
+	{ "front", "front,1" },
+	{ "adjtimex,600000000,0x2035,100000000,0,0,0,1,6,0,0,0",
+	  "adj,ok,1700000001.100000000,100000000,0,0,16000000,8193,6,10000,0" },
+	{ "front", "front,1" },
+	{ "get,0,1600000000", "at,1700000002.100039052" },
+	{ "front", "front,2" },
+	{ "late,4600000000", "ok" },
+	{ "front", "front,5" },
+	{ "apply,4600000000,3,6553600,0", "ok" },
+	{ "front", "front,6" },
+	{ "apply,4600000000,3,6553600,0", "ok" },
+	{ "front", "front,6" },
+	{ "apply,4600000000,4,10001,0", "ok" },
+	{ "front", "front,7" },
+	{ "adjtimex,4600000000,0x80,0,0,0,0,0,37,0,0,0",
+	  "adj,ok,1700000005.101210641,98446631,6553600,2000,16000000,8193,6,10001,37" },
+	{ "front", "front,8" },
+	{ "adjtimex,4600000000,0x80,0,0,0,0,0,37,0,0,0",
+	  "adj,ok,1700000005.101210641,98446631,6553600,2000,16000000,8193,6,10001,37" },
+	{ "front", "front,8" },
+	{ "adjtimex,4600000000,0x2100,0,0,0,0,0,0,0,-2,250000000",
+	  "adj,error,1700000003.351210641,0,6553600,16000000,16000000,8257,6,10001,37" },
+	{ "front", "front,10" },
+	{ "adjtimex,4600000000,0x61a0,0,0,0,0,0,38,9900,1,0",
+	  "adj,error,1700000004.351210641,0,6553600,16000000,16000000,8257,10,9900,38" },
+	{ "front", "front,13" },
+	{ "apply,4600000000,5,38,0", "ok" },
+	{ "apply,4600000000,5,38,0", "ok" },
+	{ "front", "front,15" },
+	{ "apply,4600000000,5,100001,0", "no,TKC_INVALID" },
+	{ "front", "front,15" },
+	{ "apply,4700000000,6,0,0", "ok" },
+	{ "apply,4700000000,0,0,0", "no,TKC_ASLEEP" },
+	{ "front", "front,16" },
+	{ "apply,4700000000,7,5,0", "ok" },
+	{ "front", "front,17" },
+	{ "apply,4700000000,1,1700000100,0", "ok" },
+	{ "front", "front,18" },
+	{ "apply,4700000000,8,1,37", "ok" },
+	{ "front", "front,19" },
+};
+
+/* A leap second is one command, and so is each step that leaves the rate. */
+static const struct ntp_row leap_fronts[] = {
+	{ "openhz,64,1000000000,600,0,1483228797,499000000,250", "open" },
+	{ "adjtimex,0,0x94,0,0,0,0,16,36,0,0,0",
+	  "adj,ok,1483228797.499000,0,0,0,16000000,16,2,10000,36" },
+	{ "front", "front,1" },
+	{ "advance,2500999999", "ok" },
+	{ "front", "front,1" },
+	{ "advance,2501000000", "ok" },
+	{ "front", "front,2" },
+	{ "apply,9501000000,2,100000000,0", "ok" },
+	{ "front", "front,3" },
+	{ "apply,9501000000,2,100000000,0", "ok" },
+	{ "front", "front,4" },
+	{ "adjtimex,9501000000,0x100,0,0,0,0,0,0,0,1,1000000", "no,TKC_INVALID" },
+	{ "front", "front,4" },
+	{ "adjtimex,12501000000,0x2100,0,0,0,0,0,0,0,-1483228797,0",
+	  "adj,error,200000012.000000000,0,0,16000000,16000000,8272,2,10000,37" },
+	{ "front", "front,5" },
+};
+
 static struct session session;
 
 static void try_row(const struct ntp_row *row)
@@ -339,4 +417,6 @@ void try_ntp(void)
 	try_each(late, try_row);
 	try_each(inserted_late, try_row);
 	try_each(late_refused, try_row);
+	try_each(fronts, try_row);
+	try_each(leap_fronts, try_row);
 }

@@ -85,7 +85,7 @@ static const struct saved_word saved_ntp_words[] = {
 };
 
 /* Returns steered clocks over a counter of a nanosecond a cycle, which were opened at
- * the reading 7 and have advanced once. */
+ * the reading 7 and have advanced once, which made no command. */
 static struct tkc_ntp steered(void)
 {
 	struct tkc_counter counter = nanosecond_counter();
@@ -98,7 +98,7 @@ static struct tkc_ntp steered(void)
 
 /* The words of `steered`. */
 static const uint64_t steered_words[] = {
-	1, 7, 16777216, 0, 0, 1700000000000000005, 0, 0, 0, 0,
+	0, 7, 16777216, 0, 0, 1700000000000000005, 0, 0, 0, 0,
 	32, 16777216, 24, 0, 10000,
 	250, 64, 0, 0, 0, 0, 2, 16000000, 16000000, 10000, 0, 0, 0, 0,
 	1152921504606846976, 0, 1700000001, 7,
@@ -199,28 +199,101 @@ static void try_late_reading(const struct late_reading *row)
 	check(!memcmp(&ntp, &before, sizeof(ntp)));
 }
 
-/* After 2^63 - 1 calls no call is accepted, and no other test of a reading comes
- * before that of the count. */
-static void try_full(void)
+/* A front, a reading of the clocks of `steered` with this front, and what calls return
+ * there. Their next second begins at the reading 1,000,000,002. A second and an update
+ * need room for 3 commands, a request for 6, below 2^63. */
+struct full_front {
+	uint64_t front, reading;
+	uint32_t advance, update, request;
+};
+
+static const struct full_front full_fronts[] = {
+	{ INT64_MAX - 6, 9, TKC_OK, TKC_OK, TKC_OK },
+	{ INT64_MAX - 5, 9, TKC_OK, TKC_OK, TKC_FULL },
+	{ INT64_MAX - 3, 9, TKC_OK, TKC_OK, TKC_FULL },
+	{ INT64_MAX - 2, 9, TKC_OK, TKC_FULL, TKC_FULL },
+	{ INT64_MAX, 9, TKC_OK, TKC_FULL, TKC_FULL },
+	{ UINT64_MAX, 9, TKC_OK, TKC_FULL, TKC_FULL },
+	{ UINT64_MAX, 1000000001, TKC_OK, TKC_FULL, TKC_FULL },
+	{ INT64_MAX - 6, 1000000002, TKC_OK, TKC_OK, TKC_OK },
+	{ INT64_MAX - 3, 1000000002, TKC_OK, TKC_OK, TKC_FULL },
+	{ INT64_MAX - 2, 1000000002, TKC_FULL, TKC_FULL, TKC_FULL },
+	{ UINT64_MAX, 1000000002, TKC_FULL, TKC_FULL, TKC_FULL },
+	{ INT64_MAX, 6, TKC_BEHIND, TKC_BEHIND, TKC_BEHIND },
+	{ UINT64_MAX, UINT64_C(1) << 32, TKC_INVALID, TKC_INVALID, TKC_INVALID },
+};
+
+static uint64_t front_of(const struct tkc_ntp *ntp)
+{
+	struct tkc_snapshot snapshot;
+
+	tkc_ntp_snapshot(&snapshot, ntp);
+	return tkc_snapshot_front(&snapshot);
+}
+
+/* Checks the code of a call, which added some commands to the front, or left the clocks
+ * as they were. A second may have begun before a request that found no room. */
+static void check_counted(const struct tkc_ntp *before, const struct tkc_ntp *after,
+			  uint32_t code, uint32_t wanted, uint64_t commands)
+{
+	check(code == wanted);
+	check(front_of(after) == front_of(before) + (code ? 0 : commands));
+	if (code && code != TKC_FULL)
+		check(!memcmp(after, before, sizeof(*after)));
+}
+
+static void try_full_front(const struct full_front *row)
 {
 	struct tkc_timex timex = { .modes = 0 };
-	uint64_t words[TKC_NTP_SAVED_WORDS];
+	uint64_t words[TKC_NTP_SAVED_WORDS], reading = row->reading;
 	struct tkc_ntp ntp, before;
-	uint32_t state;
+	uint32_t state = 77;
 
 	memcpy(words, steered_words, sizeof(words));
-	words[0] = INT64_MAX - 1;
-	check(!tkc_ntp_load(&ntp, words));
-	check(!tkc_ntp_advance_late(&ntp, 9));
-	before = ntp;
-	for (uint64_t reading = 6; reading < 10; reading += 3) {
-		check(tkc_ntp_advance(&ntp, reading) == TKC_FULL);
-		check(tkc_ntp_advance_late(&ntp, reading) == TKC_FULL);
-		check(tkc_ntp_apply(&ntp, reading, 9, 0, 0) == TKC_BAD_COMMAND);
-		check(tkc_ntp_apply(&ntp, reading, TKC_CMD_TICK, 5, 0) == TKC_FULL);
-		check(tkc_adjtimex(&timex, &state, &ntp, reading) == TKC_FULL);
-	}
+	words[0] = row->front;
+	check(!tkc_ntp_load(&before, words));
+	ntp = before;
+	check_counted(&before, &ntp, tkc_ntp_advance(&ntp, reading), row->advance, 0);
+	check(!row->advance || !memcmp(&ntp, &before, sizeof(ntp)));
+	ntp = before;
+	check_counted(&before, &ntp, tkc_ntp_advance_late(&ntp, reading), row->advance, 0);
+	check(!row->advance || !memcmp(&ntp, &before, sizeof(ntp)));
+	ntp = before;
+	check_counted(&before, &ntp, tkc_ntp_apply(&ntp, reading, TKC_CMD_UPDATE, 0, 0),
+		      row->update, 1);
+	ntp = before;
+	check_counted(&before, &ntp, tkc_ntp_apply(&ntp, reading, TKC_CMD_FREQ, 65536000, 0),
+		      row->request, 1);
+	ntp = before;
+	check_counted(&before, &ntp, tkc_adjtimex(&timex, &state, &ntp, reading), row->request,
+		      0);
+	check((state == 77) == (row->request != TKC_OK));
+	ntp = before;
+	check(tkc_ntp_apply(&ntp, reading, 9, 0, 0) == TKC_BAD_COMMAND);
+	check(tkc_ntp_apply(&ntp, reading, TKC_CMD_TICK, 5, 0) == TKC_INVALID);
 	check(!memcmp(&ntp, &before, sizeof(ntp)));
+}
+
+/* With a phase, each second needs one command. From the front 2^63 - 5, two of three seconds
+ * begin, and the clocks are those of other clocks that have advanced so far. */
+static void try_full_amid(void)
+{
+	uint64_t words[TKC_NTP_SAVED_WORDS], others[TKC_NTP_SAVED_WORDS], third;
+	struct tkc_ntp ntp, other;
+
+	memcpy(words, steered_words, sizeof(words));
+	words[20] = 8589934592000;
+	check(!tkc_ntp_load(&other, words));
+	words[0] = INT64_MAX - 4;
+	check(!tkc_ntp_load(&ntp, words));
+	check(tkc_ntp_advance(&ntp, 3500000000) == TKC_FULL);
+	check(!tkc_ntp_next_second(&third, &ntp));
+	check(third > 2999000000 && third < 3001000000);
+	check(!tkc_ntp_advance(&other, third - 1));
+	tkc_ntp_save(words, &ntp);
+	tkc_ntp_save(others, &other);
+	check(words[0] == INT64_MAX - 2 && others[0] == 2);
+	check(!memcmp(words + 1, others + 1, sizeof(words) - sizeof(*words)));
 }
 
 void try_saved_ntp(void)
@@ -235,5 +308,6 @@ void try_saved_ntp(void)
 	try_each(saved_ntp_words, try_saved_word);
 	try_pairs();
 	try_each(late_readings, try_late_reading);
-	try_full();
+	try_each(full_fronts, try_full_front);
+	try_full_amid();
 }

@@ -124,7 +124,8 @@ def are_in_range(hz, _status, state, is_due, due, offset, constant, maxerror, es
 
 class Steered:
     """Clocks and a discipline. `mark` is the reading that the lag was computed at, `next` the second of
-    REALTIME that begins next, `front` the number of accepted calls."""
+    REALTIME that begins next, `front` the number of commands that the clocks have accepted, those of the discipline
+    included."""
 
     def __init__(self, counter, reading, real, hz, uptime=0):
         units = uptime << counter.shift
@@ -170,6 +171,7 @@ class Steered:
         if word != "resume":
             self.account(reading)
         self.clock.do(reading, word, fields)
+        self.front += 1
 
     def account(self, reading):
         """What the cycles since the mark should have added, minus what they did, is the lag's growth."""

@@ -18,7 +18,8 @@ sys.path.insert(0, str(ROOT / "tests" / "c"))
 import compare_ntp
 
 TABLES = ["fresh", "frequencies", "pll", "fll", "microseconds", "adjtime", "inserted", "deleted",
-          "set", "leaps", "deletions", "errors", "steps", "ticks", "late", "inserted_late", "late_refused"]
+          "set", "leaps", "deletions", "errors", "steps", "ticks", "late", "inserted_late", "late_refused",
+          "fronts", "leap_fronts"]
 NAMES = {name: getattr(tkcore, name.title().replace("_", "")) for name in
          ("ASLEEP", "AWAKE", "INVALID", "BEHIND", "RANGE", "FURTHER", "NEVER", "BAD_COMMAND")}
 
@@ -88,6 +89,9 @@ class Session:
     def next(self):
         return f"next,{self.clock.next_second()}"
 
+    def front(self):
+        return f"front,{self.clock.snapshot().front}"
+
     def asked(self):
         clock, (second, by) = self.clock, self.clock.coming_leap() or (0, 0)
         return f"asked,{by},{second},{clock.status.value},{clock.frequency},{clock.tick}"
@@ -129,6 +133,30 @@ class Saved(unittest.TestCase):
                 self.assertEqual(clock.save(), changed)
         with self.assertRaises(tkcore.BadWords):
             SteeredClock.load(saved[:15])
+
+    def test_full(self):
+        """A second and a command need room for 3 commands below 2^63, a request for 6."""
+        words = self.clock.save()
+        rows = [
+            (2**63 - 4, lambda clock: clock.update(9), None),
+            (2**63 - 3, lambda clock: clock.update(9), 2**63 - 4),
+            (2**63 - 7, lambda clock: clock.adjtimex(9, Timex()), None),
+            (2**63 - 6, lambda clock: clock.adjtimex(9, Timex()), 2**63 - 7),
+            (2**64 - 1, lambda clock: clock.adjtimex(9, Timex()), 2**63 - 4),
+            (2**64 - 1, lambda clock: clock.advance(9), None),
+            (2**63 - 4, lambda clock: clock.advance(1_000_000_002), None),
+            (2**63 - 3, lambda clock: clock.advance(1_000_000_002), 2**63 - 4),
+        ]
+        for front, call, most in rows:
+            clock = SteeredClock.load((front, *words[1:]))
+            with self.subTest(front=front, most=most):
+                if most is None:
+                    call(clock)
+                    continue
+                with self.assertRaises(tkcore.Full) as raised:
+                    call(clock)
+                self.assertEqual((raised.exception.value, raised.exception.range),
+                                 (front, (0, most)))
 
     def test_loaded_clocks_go_on(self):
         self.clock.adjtimex(10, Timex(Mode.OFFSET | Mode.STATUS, offset=1000, status=Status.PLL))

@@ -130,7 +130,8 @@ pub const NTP_SAVED_WORDS: usize = 33;
 ///
 /// Every call with a reading first lets the seconds of REALTIME up to this reading begin, each at
 /// its own reading, with its leap second and its rate. So calling often or seldom leaves the same
-/// clocks.
+/// clocks. [`Snapshot::front`](crate::Snapshot::front) counts each command that the clocks accept,
+/// those of the discipline too.
 ///
 /// ```
 /// use tkcore::{mode, status, Counter, Refusal, SteeredClock, TimeState, Timespec, Timex};
@@ -216,9 +217,10 @@ impl SteeredClock {
     ///
     /// # Errors
     ///
-    /// In this order: `Full`; `Asleep`; `Invalid`; `Behind`, if the reading is behind the last
-    /// command's; `Range`; `Behind`, if it is behind the beginning of the present second or the
-    /// last request with modes. Nothing has changed then.
+    /// In this order: `Asleep`; `Invalid`; `Behind`, if the reading is behind the last command's;
+    /// `Range`; `Behind`, if it is behind the beginning of the present second or the last request
+    /// with modes. Nothing has changed then. `Full`, if the front is above 2^63 - 4 where a second
+    /// is due: the seconds before it have begun.
     #[inline]
     pub fn advance(&mut self, reading: u64) -> Result<(), Refusal> {
         sys::ntp_advance(&mut self.value, reading).map_err(Refusal::of_code)
@@ -232,7 +234,7 @@ impl SteeredClock {
     ///
     /// # Errors
     ///
-    /// The errors of [`advance`](SteeredClock::advance). Nothing has changed then.
+    /// The errors of [`advance`](SteeredClock::advance).
     ///
     /// ```
     /// # use tkcore::{mode, status, ClockId, Counter, Refusal, SteeredClock, Timespec, Timex};
@@ -257,9 +259,9 @@ impl SteeredClock {
     ///
     /// # Errors
     ///
-    /// `Full`; `Invalid` for a tick that is out of its range; the other errors of `advance`, except
-    /// for `Resume`; then the errors of [`Clock::apply`](crate::Clock::apply), and the clocks have
-    /// only advanced.
+    /// `Invalid` for a tick that is out of its range; the errors of `advance`, except for `Resume`;
+    /// `Full`, if the front is above 2^63 - 4 then, or above 2^63 - 7 for a frequency or a tick;
+    /// then the errors of [`Clock::apply`](crate::Clock::apply), and the clocks have only advanced.
     #[inline]
     pub fn apply(&mut self, reading: u64, command: Command) -> Result<(), Refusal> {
         sys::ntp_apply(&mut self.value, reading, command.arguments()).map_err(Refusal::of_code)
@@ -269,10 +271,11 @@ impl SteeredClock {
     ///
     /// # Errors
     ///
-    /// In this order: `Full`; `Invalid` for a request that is faulty; the other errors of
-    /// `advance`; the errors of the step of [`mode::SETOFFSET`], and the clocks have only advanced;
-    /// then `Range` for REALTIME or the TAI offset, and the step was made. `Invalid` comes with the
-    /// number that is out of its range: of a field, of the reading, or of the step in ns.
+    /// In this order: `Invalid` for a request that is faulty; the errors of `advance`; `Full`, if
+    /// the front is above 2^63 - 7 then; the errors of the step of [`mode::SETOFFSET`], and the clocks
+    /// have only advanced; then `Range` for REALTIME or the TAI offset, and the step was made.
+    /// `Invalid` comes with the number that is out of its range: of a field, of the reading, or of
+    /// the step in ns.
     ///
     /// ```
     /// # use tkcore::{mode, Counter, Refusal, SteeredClock, Timespec, Timex};

@@ -7,7 +7,9 @@ use core::fmt;
 #[derive(Clone, Copy, Debug, PartialEq, Eq, Hash)]
 #[non_exhaustive]
 pub enum Refusal {
-    /// The clocks have accepted 2^63 - 1 commands or more.
+    /// The clocks have accepted 2^63 - 1 commands or more. Those of a
+    /// [`SteeredClock`](crate::SteeredClock) have accepted so many that the commands of a call
+    /// might be beyond that.
     Full,
     /// The clocks are asleep, and the command isn't `Resume`.
     Asleep,

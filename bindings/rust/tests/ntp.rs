@@ -104,6 +104,7 @@ fn answer(clock: &mut Option<SteeredClock>, record: &str) -> Result<String, Refu
         "get" => get(clock, &n),
         "next" => clock.next_second().map(|reading| format!("next,{reading}")),
         "asked" => Ok(asked(clock)),
+        "front" => Ok(format!("front,{}", clock.snapshot().front())),
         "advance" => clock.advance(n[0] as u64).map(done),
         "late" => clock.advance_late(n[0] as u64).map(done),
         _ => {
@@ -116,9 +117,14 @@ fn answer(clock: &mut Option<SteeredClock>, record: &str) -> Result<String, Refu
 fn command(n: &[i128]) -> Command {
     let time = Timespec { sec: n[2] as i64, nsec: n[3] as u32 };
     match n[1] {
+        0 => Command::Update,
         1 => Command::SetTime(time),
         2 => Command::Step(time),
+        3 => Command::Freq(time.sec),
+        4 => Command::Tick(time.sec),
+        5 => Command::Tai(time.sec),
         6 => Command::Suspend,
+        8 => Command::Leap { by: time.sec, tai: time.nsec },
         number => {
             assert_eq!(number, 7);
             Command::Resume(time)
@@ -129,7 +135,7 @@ fn command(n: &[i128]) -> Command {
 #[test]
 fn worked_rows() {
     let rows = rows();
-    assert_eq!(rows.len(), 159);
+    assert_eq!(rows.len(), 216);
     let mut clock = None;
     for (record, wanted) in rows {
         let found = answer(&mut clock, &record).unwrap_or_else(name);

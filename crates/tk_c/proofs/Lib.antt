@@ -1,3 +1,4 @@
+mod CountedCalls
 mod FinestCounter
 mod FinestShift
 mod Halves

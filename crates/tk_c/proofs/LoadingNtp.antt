@@ -17,7 +17,8 @@ use Rattle.tk_c.specs.Counted.{counted_snapshot}
 use Rattle.tk_c.specs.NtpStorage.{ntp_storage}
 use Rattle.tk_c.specs.Restored.{clock_with, IsClockOf}
 use Rattle.tk_c.specs.Saved.{saved, counter_of_words, saved_frequency, saved_tick}
-use Rattle.tk_c.specs.SavedNtp.{number_words, numbers_of_words, counted_clock, saved_ntp, counted_with, steered_with, IsNtpTaken, IsNtpNotTaken, IsNtpRestored, LoadsAsNtp}
+use Rattle.tk_c.specs.CountedNtp.{counted_clock}
+use Rattle.tk_c.specs.SavedNtp.{number_words, numbers_of_words, saved_ntp, counted_with, steered_with, IsNtpTaken, IsNtpNotTaken, IsNtpRestored, LoadsAsNtp}
 use Rattle.tk_c.proofs.Loading.{same_counter, same_frequency, same_tick}
 
 -- the words of clocks and of numbers in the place of 33 others

@@ -10,7 +10,7 @@ abbrev pub code_of_call : Result ⊤ Refusal → Code
 code_of_call (Ok done) = Done
 code_of_call (Err refusal) = code_of_refusal refusal
 
--- the number of accepted calls after it
+-- the count after it
 abbrev pub counted_after : Result ⊤ Refusal → ℕ → ℕ
 counted_after (Ok done) front = front + 1
 counted_after (Err refusal) front = front

@@ -19,5 +19,7 @@ pub mod Lists
 pub mod Timex
 pub mod CallResults
 pub mod NtpStorage
+pub mod Room
+pub mod Counting
 pub mod CountedNtp
 pub mod Cycles

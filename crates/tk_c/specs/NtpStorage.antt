@@ -28,7 +28,7 @@ discipline_storage numbers = record {
   phase = numbers.phase;
 }
 
--- steered clocks after `front` accepted calls
+-- steered clocks after `front` accepted commands
 abbrev pub ntp_storage : ℕ → SteeredClock → NtpStorage
 ntp_storage front steered = record {
   base = base_storage steered.clock.base;

@@ -14,6 +14,7 @@ use Rattle.tk_c.specs.declared.counted.CountedClock.{CountedClock}
 use Rattle.tk_c.specs.declared.counted_ntp.CountedNtp.{CountedNtp}
 use Rattle.tk_c.specs.declared.ntp_storage.NtpStorage.{NtpStorage}
 use Rattle.tk_c.specs.Codes.{number_of}
+use Rattle.tk_c.specs.CountedNtp.{counted_clock}
 use Rattle.tk_c.specs.NtpStorage.{ntp_storage}
 use Rattle.tk_c.specs.Restored.{clock_with}
 use Rattle.tk_c.specs.Saved.{saved, counter_of_words, saved_frequency, saved_tick}
@@ -28,10 +29,6 @@ number_words numbers =
     ∷ cast_unsigned w64 ntp.frequency ∷ ntp.reftime ∷ cast_unsigned w64 ntp.adjust
     ∷ cast_unsigned w64 ntp.phase ∷ numbers.steering.lag.high ∷ numbers.steering.lag.low
     ∷ numbers.next ∷ numbers.mark ∷ []
-
--- the clocks of steered ones, with their front
-abbrev pub counted_clock : CountedNtp → CountedClock
-counted_clock counted = record { clock = counted.steered.clock; front = counted.front }
 
 -- the words of steered clocks with their counter: the first 15 are those of their clocks, with the
 -- front of the steered clocks; the others are their numbers

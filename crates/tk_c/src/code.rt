@@ -1,4 +1,5 @@
 ghost use Rattle.std.specs.Prelude.{◌≡◌};
+ghost use Rattle.tk_c.specs.CallResults.{code_of_call};
 ghost use Rattle.tk_c.specs.Codes.{number_of, code_of_refusal, code_of_read, code_of_fault};
 
 use tk_clock::{ReadError, Refusal};
@@ -9,7 +10,7 @@ use tk_counter::DescError;
 pub enum Code {
     /// The call is done.
     Done = 0,
-    /// The front is 2^63 - 1 or more: no further command can be counted.
+    /// The front leaves no room below 2^63 for the commands that a call may make.
     Full = 1,
     /// The clocks are asleep, and the command is not `Resume`.
     Asleep = 2,
@@ -54,6 +55,16 @@ impl Code {
         ensures { result ≡ number_of self }
     {
         self as u32
+    }
+}
+
+/// Returns the code of a result.
+pub(crate) fn code_of_call(called: Result<(), Refusal>) -> Code
+    ensures { result ≡ code_of_call called }
+{
+    match called {
+        Ok(()) => Code::Done,
+        Err(refusal) => Code::from(refusal),
     }
 }
 

@@ -4,7 +4,7 @@ ghost use Rattle.tk_c.specs.Codes.{number_of};
 ghost use Rattle.tk_c.specs.CallResults.{code_of_call, counted_after};
 
 use crate::code::Code;
-use tk_clock::{Clock, Refusal};
+use tk_clock::{COUNTED_LIMIT, Clock, Clocks, Entry, Refusal};
 
 /// Holds running clocks and the number of commands that they accepted: `struct tkc_clock` in C.
 #[repr(C)]
@@ -14,6 +14,52 @@ pub struct CountedClock {
     pub clock: Clock,
     /// The number of accepted commands, at most 2^63 - 1 in clocks that these calls change.
     pub front: u64,
+}
+
+/// The front counts each accepted command. There is room for commands if it stays at most
+/// 2^63 - 1, and otherwise `ready` returns `Refusal::Full`.
+impl Clocks for CountedClock {
+    ghost use Rattle.tk_c.specs.Room.{HasCounted, HasRoom, IsShort, clocks_of};
+    ghost use Rattle.tk_c.specs.Counting.{joins as joins_in, needs_less as needs_less_in, stays as stays_in};
+
+    ghost state = { clocks_of };
+
+    ghost is_after = { HasCounted };
+
+    ghost has_room = { HasRoom };
+
+    ghost is_short = { IsShort };
+
+    ghost stays = { stays_in };
+
+    ghost needs_less = { needs_less_in };
+
+    ghost joins = { joins_in };
+
+    #[inline(always)]
+    fn clock(&self) -> &Clock {
+        &self.clock
+    }
+
+    #[inline(always)]
+    fn is_ready(&self, count: usize) -> bool {
+        self.front <= COUNTED_LIMIT - count as u64
+    }
+
+    #[inline(always)]
+    fn ready(&mut self, count: usize) -> Result<(), Refusal> {
+        if self.is_ready(count) {
+            return Ok(());
+        }
+        Err(Refusal::Full)
+    }
+
+    #[inline(always)]
+    fn give(&mut self, entry: Entry) -> Result<(), Refusal> {
+        self.clock.apply(entry.reading, entry.cmd)?;
+        self.front += 1;
+        Ok(())
+    }
 }
 
 /// Counts a call if it was accepted, and returns its code.

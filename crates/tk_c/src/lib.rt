@@ -9,7 +9,7 @@
 //! | `tkc_ntp_*`, `tkc_adjtimex` | open steered clocks, advance them, apply commands, answer requests, return the coming leap and numbers of the discipline, convert them to and from words with their counter |
 //! | `tkc_version` | returns the archive's version |
 //! | `CountedClock` | the clocks with their count of commands, `struct tkc_clock` in C |
-//! | `CountedNtp`, `NtpStorage` | steered clocks with their count of calls, `struct tkc_ntp` in C |
+//! | `CountedNtp`, `NtpStorage` | steered clocks with their count of commands, `struct tkc_ntp` in C |
 //! | `KernelTimex` | a request and its reply, `struct tkc_timex` in C |
 //! | `CounterStorage`, `ClockStorage`, `SnapshotStorage`, `DisciplineStorage`, `TimeStorage` | memory that a value is written to |
 //! | `Code` | the codes that calls return |

@@ -1,18 +1,16 @@
 //! Steers clocks by a discipline.
-ghost use Rattle.std.specs.Prelude.{◌≡◌, ◌<◌, MatchOption, MatchResult};
-ghost use Rattle.tk_clock.specs.Limits.{counted_most};
+ghost use Rattle.std.specs.Prelude.{◌≡◌, MatchOption, MatchResult, true, false};
 ghost use Rattle.tk_clock.specs.declared.timespec.Timespec.{Timespec};
 ghost use Rattle.tk_ntp.specs.SteeredClock.{steered_refusal, steered_opened};
 ghost use Rattle.tk_ntp.specs.Uptime.{steered_running_refusal, steered_running};
 ghost use Rattle.tk_c.specs.Codes.{number_of, code_of_refusal};
-ghost use Rattle.tk_c.specs.CountedNtp.{IsAdvancedTo, IsAdvancedLateTo, IsCommandCounted, IsNtpApplied, IsRequestCounted, IsNtpAnswered, IsNextSecond};
+ghost use Rattle.tk_c.specs.CountedNtp.{IsAdvancedTo, IsCommandCounted, IsNtpApplied, IsNtpAnswered, IsNextSecond};
 ghost use Rattle.tk_c.specs.declared.code.Code.TheVariants.{Done};
 ghost use Rattle.tk_c.specs.Named.{command_named};
 ghost use Rattle.tk_c.specs.NtpStorage.{ntp_storage};
 ghost use Rattle.tk_c.specs.Storage.{snapshot_storage};
 
-use crate::code::Code;
-use crate::counted::count;
+use crate::code::{Code, code_of_call};
 use crate::counted_ntp::CountedNtp;
 use crate::general_registers::store_snapshot;
 use crate::named::command_named;
@@ -20,7 +18,7 @@ use crate::ntp_storage::{NtpStorage, store_ntp};
 use crate::reached::unreached;
 use crate::storage::SnapshotStorage;
 use crate::timex::{KernelTimex, state_number};
-use tk_clock::{COUNTED_LIMIT, Command, Refusal, Timespec};
+use tk_clock::{Command, Refusal, Timespec};
 use tk_counter::CounterDesc;
 use tk_ntp::SteeredClock;
 
@@ -28,7 +26,7 @@ use tk_ntp::SteeredClock;
 /// (`SteeredClock::open`).
 ///
 /// REALTIME is `sec` s, 0 to 8,277,292,035, plus `nsec` ns, 0 to 999,999,999, at the reading. `hz` is
-/// the number of parts of a second that phases are divided into, 1 to 1024. No call is counted yet.
+/// the number of parts of a second that phases are divided into, 1 to 1024. No command is counted yet.
 ///
 /// # Errors
 ///
@@ -93,7 +91,7 @@ pub extern "C" fn tkc_ntp_open_at(
     write_opened(out, opened)
 }
 
-/// Writes opened clocks, for which no call is counted yet, or returns the code of their refusal.
+/// Writes opened clocks, for which no command is counted yet, or returns the code of their refusal.
 fn write_opened(out: &mut NtpStorage, opened: Result<SteeredClock, Refusal>) -> u32
     ensures { MatchResult opened
         (λ steered. (result ≡ number_of Done) × (out.new ≡ ntp_storage 0 steered))
@@ -108,51 +106,59 @@ fn write_opened(out: &mut NtpStorage, opened: Result<SteeredClock, Refusal>) -> 
     }
 }
 
-/// Lets each second of REALTIME up to a reading begin, and counts the call (`SteeredClock::advance`).
+/// Lets each second of REALTIME up to a reading begin, and counts the commands that the clocks get
+/// (`SteeredClock::advance`).
 ///
 /// # Errors
 ///
-/// Returns `Code::Full` if 2^63 - 1 calls were accepted, or the code of the reading's refusal, in the
-/// order of `SteeredClock::advance`. Nothing changes then.
+/// Returns, in this order:
+///
+/// - the code of the reading's refusal, in the order of `SteeredClock::advance`: nothing changes;
+/// - `Code::Full` if the front leaves no room for the 3 commands that a second may need: the front is
+///   2^63 - 3 or more. The seconds before it have begun.
 #[unsafe(no_mangle)]
 pub extern "C" fn tkc_ntp_advance(ntp: &mut CountedNtp, reading: u64) -> u32
-    ensures { IsAdvancedTo ntp.old reading result ntp.new }
+    ensures { IsAdvancedTo false ntp.old reading result ntp.new }
 {
-    if ntp.front >= COUNTED_LIMIT {
-        return Code::Full.number();
-    }
-    let called = ntp.steered.advance(reading);
-    count(&mut ntp.front, called)
+    advance(ntp, false, reading)
 }
 
 /// Lets each second of REALTIME up to a reading begin late, with all commands of the clocks at the
-/// reading, and counts the call (`SteeredClock::advance_late`).
+/// reading, and counts these commands (`SteeredClock::advance_late`).
 ///
 /// # Errors
 ///
-/// Returns the codes of `tkc_ntp_advance`. Nothing changes then.
+/// Returns the codes of `tkc_ntp_advance`.
 #[unsafe(no_mangle)]
 pub extern "C" fn tkc_ntp_advance_late(ntp: &mut CountedNtp, reading: u64) -> u32
-    ensures { IsAdvancedLateTo ntp.old reading result ntp.new }
+    ensures { IsAdvancedTo true ntp.old reading result ntp.new }
 {
-    if ntp.front >= COUNTED_LIMIT {
-        return Code::Full.number();
-    }
-    let called = ntp.steered.advance_late(reading);
-    count(&mut ntp.front, called)
+    advance(ntp, true, reading)
+}
+
+/// Lets each second of REALTIME up to a reading begin, late or not, and counts their commands.
+fn advance(ntp: &mut CountedNtp, is_late: bool, reading: u64) -> u32
+    ensures { IsAdvancedTo is_late ntp.old reading result ntp.new }
+{
+    let (mut clocks, mut course) = (ntp.clocks(), ntp.steered.course());
+    let called = course.advance(&mut clocks, is_late, 0, reading);
+    ntp.store(&clocks, course);
+    code_of_call(called).number()
 }
 
 /// Applies the command with this number to the clocks, after the seconds up to its reading have
-/// begun, and counts it (`SteeredClock::apply`).
+/// begun, and counts each command that the clocks get (`SteeredClock::apply`).
 ///
 /// # Errors
 ///
 /// Returns, in this order:
 ///
 /// - `Code::BadCommand` if no command has the number `command`: nothing changes;
-/// - `Code::Full` if 2^63 - 1 calls were accepted: nothing changes;
-/// - the code of the first test that the reading or the command fails. If the command fails it, the
-///   seconds up to the reading have begun.
+/// - for a tick or a frequency, the codes of `tkc_adjtimex`;
+/// - the code of the reading's refusal, unless the command is a resume: nothing changes;
+/// - `Code::Full` if the front leaves no room for the 3 commands that a second, or the command, may
+///   need: the front is 2^63 - 3 or more. The seconds before have begun;
+/// - the code of the first test that the command fails. The seconds up to the reading have begun.
 #[unsafe(no_mangle)]
 pub extern "C" fn tkc_ntp_apply(
     ntp: &mut CountedNtp,
@@ -164,31 +170,33 @@ pub extern "C" fn tkc_ntp_apply(
     ensures { IsNtpApplied ntp.old reading (command_named command number nsec) result ntp.new }
 {
     match command_named(command, number, nsec) {
-        Some(cmd) if ntp.front < COUNTED_LIMIT => apply_counted(ntp, reading, cmd),
-        Some(_) => Code::Full.number(),
+        Some(cmd) => apply_counted(ntp, reading, cmd),
         None => Code::BadCommand.number(),
     }
 }
 
-/// Applies a command, and counts it if it is accepted.
+/// Applies a command, and counts each command that the clocks get.
 fn apply_counted(ntp: &mut CountedNtp, reading: u64, cmd: Command) -> u32
-    requires { ntp.old.front < counted_most }
     ensures { IsCommandCounted ntp.old reading cmd result ntp.new }
 {
-    let called = ntp.steered.apply(reading, cmd);
-    count(&mut ntp.front, called)
+    let (mut clocks, mut course) = (ntp.clocks(), ntp.steered.course());
+    let called = course.apply(&mut clocks, 0, reading, cmd);
+    ntp.store(&clocks, course);
+    code_of_call(called).number()
 }
 
-/// Does what a request asks for, after the seconds up to its reading have begun, writes the reply into
-/// `timex` and the clock's state to `state`, and counts the call (`SteeredClock::adjtimex`).
+/// Does what a request asks for, after the seconds up to its reading have begun, writes the reply
+/// into `timex` and the clock's state to `state`, and counts the commands that the clocks get
+/// (`SteeredClock::adjtimex`).
 ///
 /// # Errors
 ///
 /// Writes neither `timex` nor `state` then. Returns, in this order:
 ///
-/// - `Code::Full` if 2^63 - 1 calls were accepted: nothing changes;
 /// - `Code::Invalid` if the request has a fault (`Timex::is_faulty`): nothing changes;
 /// - the code of the test that an update at the reading fails: nothing changes;
+/// - `Code::Full` if the front leaves no room for the 3 commands that a second may need, or then for
+///   the 6 that the request may need: the front is 2^63 - 6 or more. The seconds before have begun;
 /// - the code of the test that the request's step or TAI offset fails: the seconds up to the reading
 ///   have begun.
 #[unsafe(no_mangle)]
@@ -200,23 +208,13 @@ pub extern "C" fn tkc_adjtimex(
 ) -> u32
     ensures { IsNtpAnswered ntp.old reading timex.old state.old result timex.new state.new ntp.new }
 {
-    if ntp.front >= COUNTED_LIMIT {
-        return Code::Full.number();
-    }
-    ask_counted(timex, state, ntp, reading)
-}
-
-/// Does what a request asks for, and counts it if it is accepted.
-fn ask_counted(timex: &mut KernelTimex, state: &mut u32, ntp: &mut CountedNtp, reading: u64) -> u32
-    requires { ntp.old.front < counted_most }
-    ensures { IsRequestCounted ntp.old reading timex.old state.old result timex.new state.new
-        ntp.new }
-{
-    match ntp.steered.adjtimex(reading, &timex.request()) {
+    let (mut clocks, mut course) = (ntp.clocks(), ntp.steered.course());
+    let answer = course.adjtimex(&mut clocks, 0, reading, &timex.request());
+    ntp.store(&clocks, course);
+    match answer {
         Ok(reply) => {
             timex.answer(&reply);
             *state = state_number(reply.state);
-            ntp.front += 1;
             Code::Done.number()
         }
         Err(refusal) => Code::from(refusal).number(),
@@ -245,7 +243,7 @@ pub extern "C" fn tkc_ntp_next_second(out: &mut u64, ntp: &CountedNtp) -> u32
 }
 
 /// Writes a snapshot of the clocks to `out` (`SteeredClock::snapshot`). Its front is the number of
-/// accepted calls.
+/// accepted commands.
 #[unsafe(no_mangle)]
 pub extern "C" fn tkc_ntp_snapshot(out: &mut SnapshotStorage, ntp: &CountedNtp)
     ensures { out.new ≡ snapshot_storage (record {

@@ -71,7 +71,7 @@ pub struct NtpStorage {
     pub next: u64,
     /// The reading up to which the lag is accounted for.
     pub mark: u64,
-    /// The number of accepted calls.
+    /// The number of accepted commands.
     pub front: u64,
 }
 

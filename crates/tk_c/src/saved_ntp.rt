@@ -15,7 +15,7 @@ use tk_ntp::{SteeredClock, SteeredNumbers};
 pub const NTP_SAVED_WORDS: usize = SAVED_WORDS + NUMBER_WORDS;
 
 /// Writes steered clocks as 33 words: the 15 of `tkc_clock_save` for their clocks, where word 0 is
-/// the number of accepted calls; and the 18 numbers of `SteeredClock::numbers`, in the order of
+/// the number of accepted commands; and the 18 numbers of `SteeredClock::numbers`, in the order of
 /// their fields, those with a sign in two's complement. `tkc_ntp_load` makes the same clocks from
 /// the words.
 #[unsafe(no_mangle)]
@@ -23,12 +23,8 @@ pub extern "C" fn tkc_ntp_save(words: &mut [u64; NTP_SAVED_WORDS], ntp: &Counted
     ensures value { words.new ≡ saved_ntp ntp.now }
     ensures back { LoadsAsNtp words.new ntp.now }
 {
-    let clock = CountedClock {
-        clock: ntp.steered.clock(),
-        front: ntp.front,
-    };
     let mut first = [0; SAVED_WORDS];
-    tkc_clock_save(&mut first, &clock);
+    tkc_clock_save(&mut first, &ntp.clocks());
     let numbers = number_words(ntp.steered.numbers());
     words[..SAVED_WORDS].copy_from_slice(&first);
     words[SAVED_WORDS..].copy_from_slice(&numbers);

@@ -64,7 +64,7 @@ class Commanded:
         Raises, in this order: BadCommand, Full, Asleep or Awake, Invalid for a number that is out
         of its range, Behind, Range, and Invalid for a time that REALTIME may not be set to. A
         SteeredClock first raises what its `advance` does, unless the command is RESUME, or a TICK
-        that is out of its range.
+        that is out of its range, and then Full.
         """
         readings = (0, self.counter.max_reading)
         what, nsecs = ("tai", _TAI_OFFSETS) if command == Command.LEAP else ("nsec", _NSECS)
@@ -132,12 +132,16 @@ class Commanded:
         """Returns the first reading that isn't behind, starting at the last command's."""
         return last
 
+    def _greatest_front(self, _front: int) -> int:
+        """Returns the greatest front that leaves room for the command that this front doesn't."""
+        return 2**63 - 2
+
     def _refuse_reading(self, code: int, reading: int) -> None:
-        """Raises the exception of a code that is about the reading or the count of calls."""
+        """Raises the exception of a code that is about the reading or the front."""
         front, last = self._front_and_last()
         mask = self.counter.max_reading
         if code == Full.code:
-            raise Full("the number of accepted commands", front, (0, 2**63 - 2))
+            raise Full("the number of accepted commands", front, (0, self._greatest_front(front)))
         if code == Invalid.code:
             fit(reading, (0, mask), Invalid, "reading")
         if code == Behind.code:

@@ -41,7 +41,8 @@ class Refused(Error):
 
 
 class Full(Refused):
-    """The clocks have accepted 2^63 - 1 commands or more."""
+    """The clocks have accepted 2^63 - 1 commands or more. Those of a SteeredClock have accepted so
+    many that the commands of a call might be beyond that."""
 
     code = 1
 

@@ -124,7 +124,8 @@ class SteeredClock(Commanded):
     kernel's to the last digit. Every call with a reading, except `resume`, first lets the seconds
     of REALTIME up to this reading begin, each at its own reading, with its leap second and its
     rate. A refused command or step leaves clocks that have only advanced. FREQ and TICK are
-    requests to the discipline. `update` the clocks at least once in each half of the counter's
+    requests to the discipline. The front of a snapshot counts each command that the clocks accept,
+    those of the discipline too. `update` the clocks at least once in each half of the counter's
     range. If others read snapshots meanwhile, call `advance_late` first, at the same reading.
 
     Don't let two threads use one SteeredClock without a lock. A Snapshot may be shared.
@@ -178,9 +179,10 @@ class SteeredClock(Commanded):
     def advance(self, reading: int) -> None:
         """Lets each second of REALTIME up to a reading begin.
 
-        Raises, in this order: Full; Asleep; Invalid; Behind, if the reading is behind the last
-        command's; Range; Behind, if it is behind the beginning of the present second or the last
-        request with modes. Nothing has changed then.
+        Raises, in this order: Asleep; Invalid; Behind, if the reading is behind the last command's;
+        Range; Behind, if it is behind the beginning of the present second or the last request with
+        modes. Nothing has changed then. Raises Full if the front is above 2^63 - 4 where a second
+        is due: the seconds before it have begun.
         """
         code = CALLS.tkc_ntp_advance(byref(self._value), self._reading(reading))
         if code:
@@ -191,7 +193,7 @@ class SteeredClock(Commanded):
         this reading (`tkc_ntp_advance_late` of tkcore.h).
 
         So MONOTONIC doesn't go back for reads up to the reading that use a former snapshot. Raises
-        what `advance` raises, and nothing has changed then.
+        what `advance` raises.
         """
         code = CALLS.tkc_ntp_advance_late(byref(self._value), self._reading(reading))
         if code:
@@ -200,9 +202,9 @@ class SteeredClock(Commanded):
     def adjtimex(self, reading: int, request: Timex) -> Reply:
         """Does what a request asks for at a reading, and returns the reply (adjtimex(2)).
 
-        Raises, in this order: Full; Invalid for a request that is faulty; Asleep, Invalid, Behind
-        or Range for the reading; Invalid or Range for the step of Mode.SETOFFSET; Range for
-        REALTIME or the TAI offset, after the step. Invalid has the number that is out of its range:
+        Raises, in this order: Invalid for a request that is faulty; Asleep, Invalid, Behind or
+        Range for the reading; Full, if the front is above 2^63 - 7 then; Invalid or Range for the
+        step of Mode.SETOFFSET; Range for REALTIME or the TAI offset, after the step. Invalid has the number that is out of its range:
         of a field, of the reading, or of the step in ns.
         """
         timex, state = TimexValue(), c_uint32()
@@ -275,6 +277,10 @@ class SteeredClock(Commanded):
     def _refuse_call(self, code: int, reading: int) -> NoReturn:
         self._refuse_reading(code, reading)
         raise BY_CODE[code]("the request or the reading is refused")
+
+    def _greatest_front(self, front: int) -> int:
+        # (a second and a command need room for 3 commands below 2^63, a request for 6)
+        return 2**63 - 4 if front > 2**63 - 4 else 2**63 - 7
 
     def _first_reading(self, last: int) -> int:
         mask = self.counter.max_reading

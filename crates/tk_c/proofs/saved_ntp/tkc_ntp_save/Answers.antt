@@ -1,13 +1,14 @@
 use Rattle.std.proofs.Common.{rules, ◌≡◌, ℕ, ◌∙◌, sym, subst, refl, length, List}
 use Rattle.tk_c.specs.Saved.{saved}
-use Rattle.tk_c.specs.SavedNtp.{counted_clock, number_words, LoadsAsNtp}
+use Rattle.tk_c.specs.CountedNtp.{counted_clock}
+use Rattle.tk_c.specs.SavedNtp.{number_words, LoadsAsNtp}
 use Rattle.tk_ntp.specs.Numbers.{steered_numbers}
 use Rattle.tk_c.proofs.LoadingNtp.{joined, loads}
 use Rattle.tk_c.proofs.saved_ntp.tkc_ntp_save.Goals as goal
 
 pub returns-clause-value : goal.returns-clause-value
 returns-clause-value c =
-    let saved_clock = rw c.clock.ensures at c.tkc_clock_save.ensures.value in
+    let saved_clock = rw c.clocks.ensures at c.tkc_clock_save.ensures.value in
     let first : c.copy_from_slice.new.self ≡ saved (counted_clock c.args.ntp.now) =
     c.copy_from_slice.ensures.after ∙ saved_clock in
     let numbers = rw c.numbers.ensures.value at c.number_words-numbers.ensures.value in
@@ -21,6 +22,6 @@ returns-clause-value c =
 pub returns-clause-back : goal.returns-clause-back
 returns-clause-back c =
     let narrow = rw c.numbers.ensures.value at c.number_words-numbers.ensures.back in
-    let snapshot = rw c.clock.ensures at c.tkc_clock_save.ensures.snapshot in
+    let snapshot = rw c.clocks.ensures at c.tkc_clock_save.ensures.snapshot in
     subst (λ (words : List ℕ). LoadsAsNtp words c.args.ntp.now) (sym (returns-clause-value c))
     (loads c.args.ntp.now (search rules) narrow c.numbers.ensures.back (search rules) snapshot)
