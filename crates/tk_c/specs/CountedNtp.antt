@@ -18,6 +18,7 @@ use Rattle.tk_ntp.specs.Late.{IsAdvancedLate}
 use Rattle.tk_ntp.specs.SteeredClock.{SteeredClock, reading_refusal}
 use Rattle.tk_c.specs.declared.counted.CountedClock.{CountedClock}
 use Rattle.tk_c.specs.declared.counted_ntp.CountedNtp.{CountedNtp}
+use Rattle.tk_c.specs.declared.counted_ntp.NtpParts.{NtpParts}
 use Rattle.tk_c.specs.declared.timex.KernelTimex.{KernelTimex}
 use Rattle.tk_c.specs.declared.code.Code.TheVariants.{BadCommand}
 use Rattle.tk_c.specs.Codes.{number_of}
@@ -36,6 +37,10 @@ kept_with clocks course = record {
   steered = seen clocks.clock course;
   front = clocks.front;
 }
+
+-- steered clocks with their front, of their parts
+abbrev pub whole : NtpParts → CountedNtp
+whole parts = record { steered = seen parts.clock parts.course; front = parts.front }
 
 -- a call that would have needed room for this many commands found that the front leaves none
 abbrev pub IsFull : {R : Type 0} → ℕ → Result R Refusal → CountedNtp → Type 0

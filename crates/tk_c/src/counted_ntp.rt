@@ -1,13 +1,17 @@
 ghost use Rattle.std.specs.Prelude.{◌≡◌};
-ghost use Rattle.tk_c.specs.CountedNtp.{counted_clock, kept_with};
+ghost use Rattle.tk_c.specs.CountedNtp.{counted_clock};
 
 use crate::counted::CountedClock;
+use std::mem::size_of;
+use tk_clock::Clock;
 use tk_ntp::{Course, SteeredClock};
+
+const _: () = prove!(size_of::<NtpParts>() == size_of::<CountedNtp>());
 
 /// Holds steered clocks and the number of commands that they accepted: `struct tkc_ntp` in C.
 ///
-/// Both the commands of callers and those of the discipline count. The reads of `SteeredClock` take
-/// the clocks where they are: a copy would use SSE registers, which a kernel doesn't save.
+/// Both the commands of callers and those of the discipline count. The calls that only read take
+/// this type: a copy of the clocks would use SSE registers, which a kernel doesn't save.
 #[repr(C)]
 #[derive(Clone, Copy)]
 pub struct CountedNtp {
@@ -17,8 +21,22 @@ pub struct CountedNtp {
     pub front: u64,
 }
 
+/// Holds the parts of a `CountedNtp`, for the calls that change them: `struct tkc_ntp` in C, too.
+///
+/// A `SteeredClock` contains its clocks and then their course, so the memory is the same.
+#[repr(C)]
+#[derive(Clone, Copy)]
+pub struct NtpParts {
+    /// The clocks.
+    pub clock: Clock,
+    /// The course of their discipline.
+    pub course: Course,
+    /// The number of accepted commands.
+    pub front: u64,
+}
+
 impl CountedNtp {
-    /// Returns the clocks with their front, for whoever steers them.
+    /// Returns the clocks with their front.
     #[inline(always)]
     pub(crate) fn clocks(&self) -> CountedClock
         ensures { result ≡ counted_clock self.now }
@@ -27,14 +45,5 @@ impl CountedNtp {
             clock: self.steered.clock(),
             front: self.front,
         }
-    }
-
-    /// Stores the clocks that have been steered, and the course of their discipline.
-    #[inline(always)]
-    pub(crate) fn store(&mut self, clocks: &CountedClock, course: Course)
-        ensures { self.new ≡ kept_with clocks.now course }
-    {
-        self.steered = SteeredClock::with_course(clocks.clock, course);
-        self.front = clocks.front;
     }
 }

@@ -4,14 +4,15 @@ ghost use Rattle.tk_clock.specs.declared.timespec.Timespec.{Timespec};
 ghost use Rattle.tk_ntp.specs.SteeredClock.{steered_refusal, steered_opened};
 ghost use Rattle.tk_ntp.specs.Uptime.{steered_running_refusal, steered_running};
 ghost use Rattle.tk_c.specs.Codes.{number_of, code_of_refusal};
-ghost use Rattle.tk_c.specs.CountedNtp.{IsAdvancedTo, IsCommandCounted, IsNtpApplied, IsNtpAnswered, IsNextSecond};
+ghost use Rattle.tk_c.specs.CountedNtp.{IsAdvancedTo, IsCommandCounted, IsNtpApplied, IsNtpAnswered, IsNextSecond, whole};
 ghost use Rattle.tk_c.specs.declared.code.Code.TheVariants.{Done};
 ghost use Rattle.tk_c.specs.Named.{command_named};
 ghost use Rattle.tk_c.specs.NtpStorage.{ntp_storage};
 ghost use Rattle.tk_c.specs.Storage.{snapshot_storage};
 
 use crate::code::{Code, code_of_call};
-use crate::counted_ntp::CountedNtp;
+use crate::counted::CountedClock;
+use crate::counted_ntp::{CountedNtp, NtpParts};
 use crate::general_registers::store_snapshot;
 use crate::named::command_named;
 use crate::ntp_storage::{NtpStorage, store_ntp};
@@ -117,8 +118,8 @@ fn write_opened(out: &mut NtpStorage, opened: Result<SteeredClock, Refusal>) -> 
 /// - `Code::Full` if the front leaves no room for the 3 commands that a second may need: the front is
 ///   2^63 - 3 or more. The seconds before it have begun.
 #[unsafe(no_mangle)]
-pub extern "C" fn tkc_ntp_advance(ntp: &mut CountedNtp, reading: u64) -> u32
-    ensures { IsAdvancedTo false ntp.old reading result ntp.new }
+pub extern "C" fn tkc_ntp_advance(ntp: &mut NtpParts, reading: u64) -> u32
+    ensures { IsAdvancedTo false (whole ntp.old) reading result (whole ntp.new) }
 {
     advance(ntp, false, reading)
 }
@@ -130,19 +131,23 @@ pub extern "C" fn tkc_ntp_advance(ntp: &mut CountedNtp, reading: u64) -> u32
 ///
 /// Returns the codes of `tkc_ntp_advance`.
 #[unsafe(no_mangle)]
-pub extern "C" fn tkc_ntp_advance_late(ntp: &mut CountedNtp, reading: u64) -> u32
-    ensures { IsAdvancedTo true ntp.old reading result ntp.new }
+pub extern "C" fn tkc_ntp_advance_late(ntp: &mut NtpParts, reading: u64) -> u32
+    ensures { IsAdvancedTo true (whole ntp.old) reading result (whole ntp.new) }
 {
     advance(ntp, true, reading)
 }
 
 /// Lets each second of REALTIME up to a reading begin, late or not, and counts their commands.
-fn advance(ntp: &mut CountedNtp, is_late: bool, reading: u64) -> u32
-    ensures { IsAdvancedTo is_late ntp.old reading result ntp.new }
+fn advance(ntp: &mut NtpParts, is_late: bool, reading: u64) -> u32
+    ensures { IsAdvancedTo is_late (whole ntp.old) reading result (whole ntp.new) }
 {
-    let (mut clocks, mut course) = (ntp.clocks(), ntp.steered.course());
-    let called = course.advance(&mut clocks, is_late, 0, reading);
-    ntp.store(&clocks, course);
+    let mut clocks = CountedClock {
+        clock: ntp.clock,
+        front: ntp.front,
+    };
+    let called = ntp.course.advance(&mut clocks, is_late, 0, reading);
+    ntp.clock = clocks.clock;
+    ntp.front = clocks.front;
     code_of_call(called).number()
 }
 
@@ -161,13 +166,13 @@ fn advance(ntp: &mut CountedNtp, is_late: bool, reading: u64) -> u32
 /// - the code of the first test that the command fails. The seconds up to the reading have begun.
 #[unsafe(no_mangle)]
 pub extern "C" fn tkc_ntp_apply(
-    ntp: &mut CountedNtp,
+    ntp: &mut NtpParts,
     reading: u64,
     command: u32,
     number: i64,
     nsec: u32,
 ) -> u32
-    ensures { IsNtpApplied ntp.old reading (command_named command number nsec) result ntp.new }
+    ensures { IsNtpApplied (whole ntp.old) reading (command_named command number nsec) result (whole ntp.new) }
 {
     match command_named(command, number, nsec) {
         Some(cmd) => apply_counted(ntp, reading, cmd),
@@ -176,12 +181,16 @@ pub extern "C" fn tkc_ntp_apply(
 }
 
 /// Applies a command, and counts each command that the clocks get.
-fn apply_counted(ntp: &mut CountedNtp, reading: u64, cmd: Command) -> u32
-    ensures { IsCommandCounted ntp.old reading cmd result ntp.new }
+fn apply_counted(ntp: &mut NtpParts, reading: u64, cmd: Command) -> u32
+    ensures { IsCommandCounted (whole ntp.old) reading cmd result (whole ntp.new) }
 {
-    let (mut clocks, mut course) = (ntp.clocks(), ntp.steered.course());
-    let called = course.apply(&mut clocks, 0, reading, cmd);
-    ntp.store(&clocks, course);
+    let mut clocks = CountedClock {
+        clock: ntp.clock,
+        front: ntp.front,
+    };
+    let called = ntp.course.apply(&mut clocks, 0, reading, cmd);
+    ntp.clock = clocks.clock;
+    ntp.front = clocks.front;
     code_of_call(called).number()
 }
 
@@ -203,14 +212,21 @@ fn apply_counted(ntp: &mut CountedNtp, reading: u64, cmd: Command) -> u32
 pub extern "C" fn tkc_adjtimex(
     timex: &mut KernelTimex,
     state: &mut u32,
-    ntp: &mut CountedNtp,
+    ntp: &mut NtpParts,
     reading: u64,
 ) -> u32
-    ensures { IsNtpAnswered ntp.old reading timex.old state.old result timex.new state.new ntp.new }
+    ensures { IsNtpAnswered (whole ntp.old) reading timex.old state.old result timex.new state.new
+        (whole ntp.new) }
 {
-    let (mut clocks, mut course) = (ntp.clocks(), ntp.steered.course());
-    let answer = course.adjtimex(&mut clocks, 0, reading, &timex.request());
-    ntp.store(&clocks, course);
+    let mut clocks = CountedClock {
+        clock: ntp.clock,
+        front: ntp.front,
+    };
+    let answer = ntp
+        .course
+        .adjtimex(&mut clocks, 0, reading, &timex.request());
+    ntp.clock = clocks.clock;
+    ntp.front = clocks.front;
     match answer {
         Ok(reply) => {
             timex.answer(&reply);

@@ -5,17 +5,17 @@ use Rattle.tk_ntp.specs.declared.reply.Reply.{Reply}
 use Rattle.tk_c.specs.CallResults.{code_of_call}
 use Rattle.tk_c.specs.Codes.{number_of}
 use Rattle.tk_ntp.specs.Applied.{without_reply}
-use Rattle.tk_c.specs.CountedNtp.{IsWritten}
+use Rattle.tk_c.specs.CountedNtp.{IsWritten, counted_clock, whole}
 use Rattle.tk_c.proofs.CountedCalls.{request_made}
 use Rattle.tk_c.proofs.ntp.tkc_adjtimex.Goals as goal
 
 pub returns-in-Ok : goal.returns-in-Ok
 returns-in-Ok c =
     request_made c.args.reading c.number.result c.args.timex.now c.args.state.now
-    c.answer.new.self c.state_number.result c.request.result c.args.ntp.now c.store.new.self
-    c.clocks-clocks.result c.adjtimex-answer.new.clocks c.course-course.result
-    c.adjtimex-answer.new.self c.adjtimex-answer.result c.request.ensures c.clocks-clocks.ensures
-    c.course-course.ensures c.store.ensures c.adjtimex-answer.ensures
+    c.answer.new.self c.state_number.result c.request.result (whole c.args.ntp.now) _
+    (counted_clock (whole c.args.ntp.now)) c.adjtimex-answer.new.clocks c.args.ntp.now.course
+    c.adjtimex-answer.new.self c.adjtimex-answer.result c.request.ensures refl
+    refl refl c.adjtimex-answer.ensures
     (subst (λ (r : Result Reply Refusal).
     c.number.result ≡ number_of (code_of_call (without_reply r))) (sym c.in-Ok.is) c.number.ensures)
     (subst (λ (r : Result Reply Refusal).
@@ -25,10 +25,10 @@ returns-in-Ok c =
 pub returns-in-Err : goal.returns-in-Err
 returns-in-Err c =
     request_made c.args.reading c.number-in-Err.result c.args.timex.now c.args.state.now
-    c.args.timex.now c.args.state.now c.request.result c.args.ntp.now c.store.new.self
-    c.clocks-clocks.result c.adjtimex-answer.new.clocks c.course-course.result
-    c.adjtimex-answer.new.self c.adjtimex-answer.result c.request.ensures c.clocks-clocks.ensures
-    c.course-course.ensures c.store.ensures c.adjtimex-answer.ensures
+    c.args.timex.now c.args.state.now c.request.result (whole c.args.ntp.now) _
+    (counted_clock (whole c.args.ntp.now)) c.adjtimex-answer.new.clocks c.args.ntp.now.course
+    c.adjtimex-answer.new.self c.adjtimex-answer.result c.request.ensures refl
+    refl refl c.adjtimex-answer.ensures
     (subst (λ (r : Result Reply Refusal).
     c.number-in-Err.result ≡ number_of (code_of_call (without_reply r))) (sym c.in-Err.is)
     (c.number-in-Err.ensures ∙ ap number_of c.from.ensures))
