@@ -274,25 +274,25 @@ static void try_full_front(const struct full_front *row)
 	check(!memcmp(&ntp, &before, sizeof(ntp)));
 }
 
-/* With a phase, each second needs one command. From the front 2^63 - 5, two of three seconds
- * begin, and the clocks are those of other clocks that have advanced so far. */
+/* With a phase, each second needs one command. From the front 2^63 - 4, one of two seconds
+ * begins, and the clocks are those of other clocks that have advanced so far. */
 static void try_full_amid(void)
 {
-	uint64_t words[TKC_NTP_SAVED_WORDS], others[TKC_NTP_SAVED_WORDS], third;
+	uint64_t words[TKC_NTP_SAVED_WORDS], others[TKC_NTP_SAVED_WORDS], second;
 	struct tkc_ntp ntp, other;
 
 	memcpy(words, steered_words, sizeof(words));
 	words[20] = 8589934592000;
 	check(!tkc_ntp_load(&other, words));
-	words[0] = INT64_MAX - 4;
+	words[0] = INT64_MAX - 3;
 	check(!tkc_ntp_load(&ntp, words));
-	check(tkc_ntp_advance(&ntp, 3500000000) == TKC_FULL);
-	check(!tkc_ntp_next_second(&third, &ntp));
-	check(third > 2999000000 && third < 3001000000);
-	check(!tkc_ntp_advance(&other, third - 1));
+	check(tkc_ntp_advance(&ntp, 2100000000) == TKC_FULL);
+	check(!tkc_ntp_next_second(&second, &ntp));
+	check(second > 1999000000 && second < 2001000000);
+	check(!tkc_ntp_advance(&other, second - 1));
 	tkc_ntp_save(words, &ntp);
 	tkc_ntp_save(others, &other);
-	check(words[0] == INT64_MAX - 2 && others[0] == 2);
+	check(words[0] == INT64_MAX - 2 && others[0] == 1);
 	check(!memcmp(words + 1, others + 1, sizeof(words) - sizeof(*words)));
 }
 
