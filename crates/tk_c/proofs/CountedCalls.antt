@@ -17,7 +17,7 @@ use Rattle.tk_ntp.specs.Keeping.{HasArrivedOr, IsAdvancedTo, IsAnsweredTo, IsApp
 use Rattle.tk_ntp.specs.SteeredClock.{SteeredClock, reading_refusal}
 use Rattle.tk_ntp.proofs.SeenBy.{advanced, asked, commanded, same_seen}
 use Rattle.tk_c.specs.declared.counted.CountedClock.{CountedClock}
-use Rattle.tk_c.specs.declared.counted_ntp.CountedNtp.{CountedNtp}
+use Rattle.tk_c.specs.declared.counted_ntp.SteeredCount.{SteeredCount}
 use Rattle.tk_c.specs.CountedNtp.{IsAdvancedTo as IsAdvancedCounted, IsArrived, IsCommandCounted, IsFull, IsNtpAnswered, IsWritten, counted_clock, kept_with, most_of}
 use Rattle.tk_c.specs.declared.timex.KernelTimex.{KernelTimex}
 use Rattle.tk_c.specs.CallResults.{code_of_call}
@@ -26,13 +26,13 @@ use Rattle.tk_c.specs.Timex.{request_of as asked_of}
 use Rattle.tk_c.specs.Room.{HasCounted, HasRoom, IsShort, clocks_of}
 
 -- what leaves both parts leaves the whole
-same : (old new : CountedNtp) → counted_clock new ≡ counted_clock old →
+same : (old new : SteeredCount) → counted_clock new ≡ counted_clock old →
     course_of new.steered ≡ course_of old.steered → new ≡ old
 same old new is is' =
     ap (λ (a : CountedClock). kept_with a (course_of new.steered)) is
     ∙ ap (λ (a : Course). kept_with (counted_clock old) a) is'
 
-begun : (is_late : Bool) (reading : ℕ) (old new : CountedNtp) →
+begun : (is_late : Bool) (reading : ℕ) (old new : SteeredCount) →
     HasArrivedOr clocks_of HasCounted HasRoom IsShort is_late 0 reading (counted_clock old)
     (course_of old.steered)
     (Ok (tt {0})) (counted_clock new) (course_of new.steered) →
@@ -46,7 +46,7 @@ begun false reading old new h =
     (course_of old.steered) (counted_clock new)
     (course_of new.steered) h
 
-arrived-by : (refused : Option Refusal) (is_late : Bool) (reading : ℕ) (old new : CountedNtp)
+arrived-by : (refused : Option Refusal) (is_late : Bool) (reading : ℕ) (old new : SteeredCount)
     (result : Result ⊤ Refusal) →
     MatchOption refused
     (HasArrivedOr clocks_of HasCounted HasRoom IsShort is_late 0 reading (counted_clock old)
@@ -65,7 +65,7 @@ arrived-by None is_late reading old new (Err refusal) h =
 arrived-by (Some refusal) is_late reading old new result h = (h.0, same old new h.1 h.2)
 
 -- an advance
-pub arrived : (is_late : Bool) (reading : ℕ) (old new : CountedNtp) (result : Result ⊤ Refusal) →
+pub arrived : (is_late : Bool) (reading : ℕ) (old new : SteeredCount) (result : Result ⊤ Refusal) →
     IsAdvancedTo clocks_of HasCounted HasRoom IsShort is_late 0 reading (counted_clock old)
     (course_of old.steered) result
     (counted_clock new) (course_of new.steered) →
@@ -77,7 +77,7 @@ arrived is_late reading old new result =
     arrived-by (reading_refusal reading old.steered) is_late reading old new result
 
 -- a call that isn't made found no room
-unmade : (count reading : ℕ) (old new : CountedNtp) (refusal : Refusal) → 3 < count + 1 →
+unmade : (count reading : ℕ) (old new : SteeredCount) (refusal : Refusal) → 3 < count + 1 →
     IsUnmade clocks_of HasCounted HasRoom IsShort count 0 reading (counted_clock old)
     (course_of old.steered) refusal
     (counted_clock new) (course_of new.steered) →
@@ -87,7 +87,7 @@ unmade count reading old new refusal more (inl h) =
     (h.unready.short.0, omega (arith, few, more))
 unmade count reading old new refusal more (inr h) = (h.2.short.0, h.2.short.1)
 
-short : {R : Type 0} (count reading : ℕ) (old new : CountedNtp) (result : Result R Refusal) →
+short : {R : Type 0} (count reading : ℕ) (old new : SteeredCount) (result : Result R Refusal) →
     3 < count + 1 →
     MatchResult result (λ _. ⊥)
     (λ refusal. IsUnmade clocks_of HasCounted HasRoom IsShort count 0 reading (counted_clock old)
@@ -98,7 +98,7 @@ short count reading old new (Ok value) more h = absurd h
 short count reading old new (Err refusal) more h =
     let is = unmade count reading old new refusal more h in (ap Err is.0, is.1)
 
-answered-by : (fault : Option Refusal) (reading : ℕ) (request : Timex) (old new : CountedNtp)
+answered-by : (fault : Option Refusal) (reading : ℕ) (request : Timex) (old new : SteeredCount)
     (result : Result Reply Refusal) →
     MatchOption fault
     (IsFollowing clocks_of HasCounted HasRoom IsShort request_most 0 reading
@@ -129,7 +129,7 @@ answered-by (Some refusal) reading request old new result h = inl (
 )
 
 -- a request
-pub answered : (reading : ℕ) (request : Timex) (old new : CountedNtp)
+pub answered : (reading : ℕ) (request : Timex) (old new : SteeredCount)
     (result : Result Reply Refusal) →
     IsAnsweredTo clocks_of HasCounted HasRoom IsShort 0 reading request (counted_clock old)
     (course_of old.steered) result
@@ -139,7 +139,7 @@ pub answered : (reading : ℕ) (request : Timex) (old new : CountedNtp)
 answered reading request old new result =
     answered-by (first_fault reading request old.steered) reading request old new result
 
-followed-by : (refused : Option Refusal) (reading : ℕ) (cmd : Command) (old new : CountedNtp)
+followed-by : (refused : Option Refusal) (reading : ℕ) (cmd : Command) (old new : SteeredCount)
     (result : Result ⊤ Refusal) →
     MatchOption refused
     (IsFollowing clocks_of HasCounted HasRoom IsShort second_most 0 reading
@@ -169,7 +169,7 @@ followed-by (Some refusal) reading cmd old new result h = inl (
       (course_of old.steered) (course_of new.steered) h.1 h.2,
 )
 
-direct : (reading : ℕ) (cmd : Command) (old new : CountedNtp) (result : Result ⊤ Refusal) →
+direct : (reading : ℕ) (cmd : Command) (old new : SteeredCount) (result : Result ⊤ Refusal) →
     IsDirectTo clocks_of HasCounted HasRoom IsShort 0 reading cmd (counted_clock old)
     (course_of old.steered) result
     (counted_clock new) (course_of new.steered) →
@@ -182,7 +182,7 @@ direct reading cmd old new result (inr h) = inl
     (course_of old.steered) result
     (counted_clock new) (course_of new.steered) h.1 h.2)
 
-plain : (resumes : Bool) (reading : ℕ) (cmd : Command) (old new : CountedNtp)
+plain : (resumes : Bool) (reading : ℕ) (cmd : Command) (old new : SteeredCount)
     (result : Result ⊤ Refusal) →
     IsPlainTo clocks_of HasCounted HasRoom IsShort resumes 0 reading cmd (counted_clock old)
     (course_of old.steered) result
@@ -194,7 +194,7 @@ plain false reading cmd old new result h =
     followed-by (reading_refusal reading old.steered) reading cmd old new result h
 
 -- the result of a command that acts as a request
-as_command : (reading : ℕ) (request : Timex) (old new : CountedNtp) (result : Result ⊤ Refusal)
+as_command : (reading : ℕ) (request : Timex) (old new : SteeredCount) (result : Result ⊤ Refusal)
     (answer : Result Reply Refusal) → result ≡ without_reply answer →
     IsAnswered reading request old.steered answer new.steered
     ⊎ IsFull request_most answer new →
@@ -206,7 +206,7 @@ as_command reading request old new result answer is (inl h) = inl (answer, h, is
 as_command reading request old new result answer is (inr h) =
     inr (is ∙ ap without_reply h.0, h.1)
 
-applied-by : (acts : Option Timex) (reading : ℕ) (cmd : Command) (old new : CountedNtp)
+applied-by : (acts : Option Timex) (reading : ℕ) (cmd : Command) (old new : SteeredCount)
     (result : Result ⊤ Refusal) →
     MatchOption acts
     (IsPlainTo clocks_of HasCounted HasRoom IsShort (is_resume cmd) 0 reading cmd
@@ -228,7 +228,7 @@ applied-by (Some request) reading cmd old new result h =
     as_command reading request old new result h.0 h.2 (answered reading request old new h.0 h.1)
 
 -- a command
-pub applied : (reading : ℕ) (cmd : Command) (old new : CountedNtp) (result : Result ⊤ Refusal) →
+pub applied : (reading : ℕ) (cmd : Command) (old new : SteeredCount) (result : Result ⊤ Refusal) →
     IsAppliedTo clocks_of HasCounted HasRoom IsShort 0 reading cmd (counted_clock old)
     (course_of old.steered) result
     (counted_clock new) (course_of new.steered) →
@@ -237,7 +237,7 @@ pub applied : (reading : ℕ) (cmd : Command) (old new : CountedNtp) (result : R
 applied reading cmd old new result = applied-by (request_of cmd) reading cmd old new result
 
 -- an advance that was made over a copy of the clocks, which is stored
-pub advance_made : (is_late : Bool) (reading code : ℕ) (old new : CountedNtp)
+pub advance_made : (is_late : Bool) (reading code : ℕ) (old new : SteeredCount)
     (clocks clocks' : CountedClock) (course course' : Course) (called : Result ⊤ Refusal) →
     clocks ≡ counted_clock old → course ≡ course_of old.steered → new ≡ kept_with clocks' course' →
     IsAdvancedTo clocks_of HasCounted HasRoom IsShort is_late 0 reading clocks course called clocks'
@@ -253,7 +253,7 @@ advance_made is_late reading code old new clocks clocks' course course' called i
     (subst (λ (a : Course).
     IsAdvancedTo clocks_of HasCounted HasRoom IsShort is_late 0 reading clocks a called clocks'
     course') is' h) in
-    subst (λ (a : CountedNtp). IsAdvancedCounted is_late old reading code a) (sym kept) (record {
+    subst (λ (a : SteeredCount). IsAdvancedCounted is_late old reading code a) (sym kept) (record {
       called = called;
       commands = commands;
       clocks = arrived is_late reading old (kept_with clocks' course') called commands;
@@ -261,7 +261,7 @@ advance_made is_late reading code old new clocks clocks' course course' called i
     })
 
 -- a command
-pub command_made : (reading code : ℕ) (cmd : Command) (old new : CountedNtp)
+pub command_made : (reading code : ℕ) (cmd : Command) (old new : SteeredCount)
     (clocks clocks' : CountedClock) (course course' : Course) (called : Result ⊤ Refusal) →
     clocks ≡ counted_clock old → course ≡ course_of old.steered → new ≡ kept_with clocks' course' →
     IsAppliedTo clocks_of HasCounted HasRoom IsShort 0 reading cmd clocks course called clocks'
@@ -276,7 +276,7 @@ command_made reading code cmd old new clocks clocks' course course' called is is
     (subst (λ (a : Course).
     IsAppliedTo clocks_of HasCounted HasRoom IsShort 0 reading cmd clocks a called clocks'
     course') is' h) in
-    subst (λ (a : CountedNtp). IsCommandCounted old reading cmd code a) (sym kept) (record {
+    subst (λ (a : SteeredCount). IsCommandCounted old reading cmd code a) (sym kept) (record {
       called = called;
       commands = commands;
       clocks = applied reading cmd old (kept_with clocks' course') called commands;
@@ -285,7 +285,7 @@ command_made reading code cmd old new clocks clocks' course course' called is is
 
 -- a request
 pub request_made : (reading code : ℕ) (timex : KernelTimex) (state : ℕ) (timex' : KernelTimex)
-    (state' : ℕ) (request : Timex) (old new : CountedNtp) (clocks clocks' : CountedClock)
+    (state' : ℕ) (request : Timex) (old new : SteeredCount) (clocks clocks' : CountedClock)
     (course course' : Course) (answer : Result Reply Refusal) →
     request ≡ asked_of timex → clocks ≡ counted_clock old → course ≡ course_of old.steered →
     new ≡ kept_with clocks' course' →
@@ -306,7 +306,7 @@ request_made reading code timex state timex' state' request old new clocks clock
     (subst (λ (a : Course).
     IsAnsweredTo clocks_of HasCounted HasRoom IsShort 0 reading request clocks a answer clocks'
     course') is' h)) in
-    subst (λ (a : CountedNtp). IsNtpAnswered old reading timex state code timex' state' a) (sym
+    subst (λ (a : SteeredCount). IsNtpAnswered old reading timex state code timex' state' a) (sym
     kept)
     (record {
       answer = answer;

@@ -10,7 +10,7 @@ use Rattle.tk_ntp.specs.Numbers.{steered_numbers}
 use Rattle.tk_ntp.specs.Restored.{steered_from}
 use Rattle.tk_c.specs.declared.code.Code.TheVariants.{Done, BadWords}
 use Rattle.tk_c.specs.declared.counted.CountedClock.{CountedClock}
-use Rattle.tk_c.specs.declared.counted_ntp.CountedNtp.{CountedNtp}
+use Rattle.tk_c.specs.declared.counted_ntp.SteeredCount.{SteeredCount}
 use Rattle.tk_c.specs.declared.ntp_storage.NtpStorage.{NtpStorage}
 use Rattle.tk_c.specs.Codes.{number_of}
 use Rattle.tk_c.specs.Counted.{counted_snapshot}
@@ -67,7 +67,7 @@ module _ (first rest : List ℕ) (clock : CountedClock) (old new : NtpStorage) (
   AreFound = MatchOption (counter_of_words first) (Some clock ≡ None)
       (λ counter. IsFound (restored counter (take 10 first)))
 
-  pub taken : (ntp : CountedNtp) → AreFound
+  pub taken : (ntp : SteeredCount) → AreFound
       → counted_with clock (numbers_of_words rest) ≡ Some ntp
       → new ≡ ntp_storage ntp.front ntp.steered → code ≡ number_of Done
       → IsNtpRestored first rest old new code
@@ -90,13 +90,13 @@ module _ (first rest : List ℕ) (clock : CountedClock) (old new : NtpStorage) (
       })) (counter_of_words first) are
 
 -- the same clocks are found twice
-agreed : (ntp other : CountedNtp) (found : Option CountedNtp) (new : NtpStorage)
+agreed : (ntp other : SteeredCount) (found : Option SteeredCount) (new : NtpStorage)
     → found ≡ Some ntp → found ≡ Some other → new ≡ ntp_storage other.front other.steered
     → new ≡ ntp_storage ntp.front ntp.steered
 agreed ntp other found new e f g = grind arith
 
 -- saved steered clocks are loaded as the same clocks
-module _ (ntp : CountedNtp)
+module _ (ntp : SteeredCount)
     (running : IsRunning ntp.steered.clock.base ntp.steered.clock.frequency ntp.steered.clock.tick)
     (narrow : numbers_of_words (number_words (steered_numbers ntp.steered))
     ≡ Some (steered_numbers ntp.steered))

@@ -17,8 +17,8 @@ use Rattle.tk_ntp.specs.Keeping.{IsAdvancedTo as IsAdvancedBy, IsAnsweredTo, IsA
 use Rattle.tk_ntp.specs.Late.{IsAdvancedLate}
 use Rattle.tk_ntp.specs.SteeredClock.{SteeredClock, reading_refusal}
 use Rattle.tk_c.specs.declared.counted.CountedClock.{CountedClock}
+use Rattle.tk_c.specs.declared.counted_ntp.SteeredCount.{SteeredCount}
 use Rattle.tk_c.specs.declared.counted_ntp.CountedNtp.{CountedNtp}
-use Rattle.tk_c.specs.declared.counted_ntp.NtpParts.{NtpParts}
 use Rattle.tk_c.specs.declared.timex.KernelTimex.{KernelTimex}
 use Rattle.tk_c.specs.declared.code.Code.TheVariants.{BadCommand}
 use Rattle.tk_c.specs.Codes.{number_of}
@@ -28,22 +28,25 @@ use Rattle.tk_c.specs.Room.{HasCounted, HasRoom, IsShort, clocks_of}
 use Rattle.tk_c.specs.Timex.{request_of as asked_of, answered, state_number}
 
 -- the clocks of steered ones, with their front
-abbrev pub counted_clock : CountedNtp → CountedClock
+abbrev pub counted_clock : SteeredCount → CountedClock
 counted_clock counted = record { clock = counted.steered.clock; front = counted.front }
 
 -- clocks with their front, and the course of their discipline, as steered clocks
-abbrev pub kept_with : CountedClock → Course → CountedNtp
+abbrev pub kept_with : CountedClock → Course → SteeredCount
 kept_with clocks course = record {
   steered = seen clocks.clock course;
   front = clocks.front;
 }
 
 -- steered clocks with their front, of their parts
-abbrev pub whole : NtpParts → CountedNtp
-whole parts = record { steered = seen parts.clock parts.course; front = parts.front }
+abbrev pub whole : CountedNtp → SteeredCount
+whole parts = record {
+  steered = seen parts.clocks.clock parts.course;
+  front = parts.clocks.front;
+}
 
 -- a call that would have needed room for this many commands found that the front leaves none
-abbrev pub IsFull : {R : Type 0} → ℕ → Result R Refusal → CountedNtp → Type 0
+abbrev pub IsFull : {R : Type 0} → ℕ → Result R Refusal → SteeredCount → Type 0
 IsFull count result new = (result ≡ Err Full) × (counted_most < new.front + count)
 
 -- the clocks after the seconds up to a reading have begun, late or not
@@ -53,7 +56,7 @@ IsArrived false reading before after = IsAdvanced reading before after
 
 -- the code of an advance, and the clocks after it. `commands` names the commands of each second
 -- that begins, all of which are counted. A second begins only with room for 3 of them
-pub record IsAdvancedTo (is_late : Bool) (old : CountedNtp) (reading code : ℕ) (new : CountedNtp) :
+pub record IsAdvancedTo (is_late : Bool) (old : SteeredCount) (reading code : ℕ) (new : SteeredCount) :
     Type 0 where
   pub called : Result ⊤ Refusal
   pub commands : IsAdvancedBy clocks_of HasCounted HasRoom IsShort is_late 0 reading
@@ -71,8 +74,8 @@ most_of (Some request) = request_most
 
 -- a command has a result, which the code reports. `commands` names the commands of the seconds that
 -- begin before it, and those that it makes itself: all of them are counted
-pub record IsCommandCounted (old : CountedNtp) (reading : ℕ) (cmd : Command) (code : ℕ)
-    (new : CountedNtp) : Type 0 where
+pub record IsCommandCounted (old : SteeredCount) (reading : ℕ) (cmd : Command) (code : ℕ)
+    (new : SteeredCount) : Type 0 where
   pub called : Result ⊤ Refusal
   pub commands : IsAppliedTo clocks_of HasCounted HasRoom IsShort 0 reading cmd (counted_clock old)
       (course_of old.steered) called (counted_clock new) (course_of new.steered)
@@ -81,7 +84,7 @@ pub record IsCommandCounted (old : CountedNtp) (reading : ℕ) (cmd : Command) (
   pub stated : code ≡ number_of (code_of_call called)
 
 -- the code of the command with a number, if there is one, and the clocks after it
-abbrev pub IsNtpApplied : CountedNtp → ℕ → Option Command → ℕ → CountedNtp → Type 0
+abbrev pub IsNtpApplied : SteeredCount → ℕ → Option Command → ℕ → SteeredCount → Type 0
 IsNtpApplied old reading named code new =
     MatchOption named
     ((code ≡ number_of BadCommand) × (new ≡ old))
@@ -97,8 +100,8 @@ IsWritten answer old before new after =
 -- a request has an answer, which is written and which the code reports. `commands` names the
 -- commands of the seconds that begin before it, and those that it makes itself: all of them are
 -- counted
-pub record IsNtpAnswered (old : CountedNtp) (reading : ℕ) (timex : KernelTimex) (state code : ℕ)
-    (timex' : KernelTimex) (state' : ℕ) (new : CountedNtp) : Type 0 where
+pub record IsNtpAnswered (old : SteeredCount) (reading : ℕ) (timex : KernelTimex) (state code : ℕ)
+    (timex' : KernelTimex) (state' : ℕ) (new : SteeredCount) : Type 0 where
   pub answer : Result Reply Refusal
   pub commands : IsAnsweredTo clocks_of HasCounted HasRoom IsShort 0 reading (asked_of timex)
       (counted_clock old) (course_of old.steered) answer (counted_clock new) (course_of new.steered)
@@ -108,7 +111,7 @@ pub record IsNtpAnswered (old : CountedNtp) (reading : ℕ) (timex : KernelTimex
   pub written : IsWritten answer timex state timex' state'
 
 -- the code and the reading at which the next second of REALTIME begins
-abbrev pub IsNextSecond : CountedNtp → ℕ → ℕ → ℕ → Type 0
+abbrev pub IsNextSecond : SteeredCount → ℕ → ℕ → ℕ → Type 0
 IsNextSecond counted old new code =
     IsReached counted.steered.clock.base Realtime
     (nanoseconds (second_time counted.steered.next)) old new code

@@ -11,7 +11,7 @@ use Rattle.tk_ntp.specs.Restored.{steered_from}
 use Rattle.tk_ntp.specs.SteeredClock.{SteeredClock}
 use Rattle.tk_c.specs.declared.code.Code.TheVariants.{Done, BadWords}
 use Rattle.tk_c.specs.declared.counted.CountedClock.{CountedClock}
-use Rattle.tk_c.specs.declared.counted_ntp.CountedNtp.{CountedNtp}
+use Rattle.tk_c.specs.declared.counted_ntp.SteeredCount.{SteeredCount}
 use Rattle.tk_c.specs.declared.ntp_storage.NtpStorage.{NtpStorage}
 use Rattle.tk_c.specs.Codes.{number_of}
 use Rattle.tk_c.specs.CountedNtp.{counted_clock}
@@ -32,7 +32,7 @@ number_words numbers =
 
 -- the words of steered clocks with their counter: the first 15 are those of their clocks, with the
 -- front of the steered clocks; the others are their numbers
-abbrev pub saved_ntp : CountedNtp → List ℕ
+abbrev pub saved_ntp : SteeredCount → List ℕ
 saved_ntp counted =
     saved (counted_clock counted) ++ number_words (steered_numbers counted.steered)
 
@@ -77,12 +77,12 @@ abbrev pub numbers_of_words : List ℕ → Option SteeredNumbers
 numbers_of_words words = if are_narrow words then Some (numbers_in words) else None
 
 -- steered clocks with their front, unless their numbers are out of range
-abbrev pub counted_of : ℕ → Result SteeredClock NumbersError → Option CountedNtp
+abbrev pub counted_of : ℕ → Result SteeredClock NumbersError → Option SteeredCount
 counted_of front (Ok steered) = Some (record { steered = steered; front = front })
 counted_of front (Err error) = None
 
 -- the steered clocks of these clocks and numbers, if there are such clocks
-abbrev pub counted_with : CountedClock → Option SteeredNumbers → Option CountedNtp
+abbrev pub counted_with : CountedClock → Option SteeredNumbers → Option SteeredCount
 counted_with clock None = None
 counted_with clock (Some numbers) = counted_of clock.front (steered_from clock.clock numbers)
 
@@ -92,7 +92,7 @@ IsRunningBy snapshot words = IsRunning snapshot.base (saved_frequency words) (sa
 
 -- the steered clocks of a snapshot, the words of its clocks, and those of their numbers, if such
 -- clocks can be
-abbrev pub steered_with : Snapshot → List ℕ → List ℕ → Option CountedNtp
+abbrev pub steered_with : Snapshot → List ℕ → List ℕ → Option SteeredCount
 steered_with snapshot first rest =
     counted_with (clock_with snapshot (saved_frequency first) (saved_tick first))
     (numbers_of_words rest)
@@ -101,7 +101,7 @@ steered_with snapshot first rest =
 pub record IsNtpTaken (snapshot : Snapshot) (first rest : List ℕ) (new : NtpStorage)
     (code : ℕ) : Type 0 where
   pub running : IsRunningBy snapshot first
-  pub counted : CountedNtp
+  pub counted : SteeredCount
   pub found : steered_with snapshot first rest ≡ Some counted
   pub written : new ≡ ntp_storage counted.front counted.steered
   pub done : code ≡ number_of Done
@@ -128,6 +128,6 @@ abbrev pub IsNtpLoaded : List ℕ → NtpStorage → NtpStorage → ℕ → Type
 IsNtpLoaded words old new code = IsNtpRestored (take 15 words) (drop 15 words) old new code
 
 -- each load of the words gives these steered clocks
-abbrev pub LoadsAsNtp : List ℕ → CountedNtp → Type 0
+abbrev pub LoadsAsNtp : List ℕ → SteeredCount → Type 0
 LoadsAsNtp words counted = (old new : NtpStorage) (code : ℕ) → IsNtpLoaded words old new code
     → (code ≡ number_of Done) × (new ≡ ntp_storage counted.front counted.steered)

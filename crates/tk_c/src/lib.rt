@@ -9,7 +9,7 @@
 //! | `tkc_ntp_*`, `tkc_adjtimex` | open steered clocks, advance them, apply commands, answer requests, return the coming leap and numbers of the discipline, convert them to and from words with their counter |
 //! | `tkc_version` | returns the archive's version |
 //! | `CountedClock` | the clocks with their count of commands, `struct tkc_clock` in C |
-//! | `CountedNtp`, `NtpParts`, `NtpStorage` | steered clocks with their count of commands, `struct tkc_ntp` in C |
+//! | `CountedNtp`, `SteeredCount`, `NtpStorage` | steered clocks with their count of commands, `struct tkc_ntp` in C |
 //! | `KernelTimex` | a request and its reply, `struct tkc_timex` in C |
 //! | `CounterStorage`, `ClockStorage`, `SnapshotStorage`, `DisciplineStorage`, `TimeStorage` | memory that a value is written to |
 //! | `Code` | the codes that calls return |
@@ -50,7 +50,7 @@ pub use clocks::{tkc_clock_apply, tkc_clock_open, tkc_clock_open_at, tkc_clock_s
 pub use coarse::tkc_snapshot_coarse;
 pub use code::Code;
 pub use counted::CountedClock;
-pub use counted_ntp::{CountedNtp, NtpParts};
+pub use counted_ntp::{CountedNtp, SteeredCount};
 pub use counters::{
     tkc_counter_from_hz, tkc_counter_from_khz, tkc_counter_new, tkc_counter_numbers,
     tkc_snapshot_counter,

@@ -11,8 +11,7 @@ ghost use Rattle.tk_c.specs.NtpStorage.{ntp_storage};
 ghost use Rattle.tk_c.specs.Storage.{snapshot_storage};
 
 use crate::code::{Code, code_of_call};
-use crate::counted::CountedClock;
-use crate::counted_ntp::{CountedNtp, NtpParts};
+use crate::counted_ntp::{CountedNtp, SteeredCount};
 use crate::general_registers::store_snapshot;
 use crate::named::command_named;
 use crate::ntp_storage::{NtpStorage, store_ntp};
@@ -100,7 +99,7 @@ fn write_opened(out: &mut NtpStorage, opened: Result<SteeredClock, Refusal>) -> 
 {
     match opened {
         Ok(steered) => {
-            store_ntp(out, &CountedNtp { steered, front: 0 });
+            store_ntp(out, &SteeredCount { steered, front: 0 });
             Code::Done.number()
         }
         Err(refusal) => Code::from(refusal).number(),
@@ -118,7 +117,7 @@ fn write_opened(out: &mut NtpStorage, opened: Result<SteeredClock, Refusal>) -> 
 /// - `Code::Full` if the front leaves no room for the 3 commands that a second may need: the front is
 ///   2^63 - 3 or more. The seconds before it have begun.
 #[unsafe(no_mangle)]
-pub extern "C" fn tkc_ntp_advance(ntp: &mut NtpParts, reading: u64) -> u32
+pub extern "C" fn tkc_ntp_advance(ntp: &mut CountedNtp, reading: u64) -> u32
     ensures { IsAdvancedTo false (whole ntp.old) reading result (whole ntp.new) }
 {
     advance(ntp, false, reading)
@@ -131,23 +130,17 @@ pub extern "C" fn tkc_ntp_advance(ntp: &mut NtpParts, reading: u64) -> u32
 ///
 /// Returns the codes of `tkc_ntp_advance`.
 #[unsafe(no_mangle)]
-pub extern "C" fn tkc_ntp_advance_late(ntp: &mut NtpParts, reading: u64) -> u32
+pub extern "C" fn tkc_ntp_advance_late(ntp: &mut CountedNtp, reading: u64) -> u32
     ensures { IsAdvancedTo true (whole ntp.old) reading result (whole ntp.new) }
 {
     advance(ntp, true, reading)
 }
 
 /// Lets each second of REALTIME up to a reading begin, late or not, and counts their commands.
-fn advance(ntp: &mut NtpParts, is_late: bool, reading: u64) -> u32
+fn advance(ntp: &mut CountedNtp, is_late: bool, reading: u64) -> u32
     ensures { IsAdvancedTo is_late (whole ntp.old) reading result (whole ntp.new) }
 {
-    let mut clocks = CountedClock {
-        clock: ntp.clock,
-        front: ntp.front,
-    };
-    let called = ntp.course.advance(&mut clocks, is_late, 0, reading);
-    ntp.clock = clocks.clock;
-    ntp.front = clocks.front;
+    let called = ntp.course.advance(&mut ntp.clocks, is_late, 0, reading);
     code_of_call(called).number()
 }
 
@@ -166,13 +159,14 @@ fn advance(ntp: &mut NtpParts, is_late: bool, reading: u64) -> u32
 /// - the code of the first test that the command fails. The seconds up to the reading have begun.
 #[unsafe(no_mangle)]
 pub extern "C" fn tkc_ntp_apply(
-    ntp: &mut NtpParts,
+    ntp: &mut CountedNtp,
     reading: u64,
     command: u32,
     number: i64,
     nsec: u32,
 ) -> u32
-    ensures { IsNtpApplied (whole ntp.old) reading (command_named command number nsec) result (whole ntp.new) }
+    ensures { IsNtpApplied (whole ntp.old) reading (command_named command number nsec) result
+        (whole ntp.new) }
 {
     match command_named(command, number, nsec) {
         Some(cmd) => apply_counted(ntp, reading, cmd),
@@ -181,16 +175,10 @@ pub extern "C" fn tkc_ntp_apply(
 }
 
 /// Applies a command, and counts each command that the clocks get.
-fn apply_counted(ntp: &mut NtpParts, reading: u64, cmd: Command) -> u32
+fn apply_counted(ntp: &mut CountedNtp, reading: u64, cmd: Command) -> u32
     ensures { IsCommandCounted (whole ntp.old) reading cmd result (whole ntp.new) }
 {
-    let mut clocks = CountedClock {
-        clock: ntp.clock,
-        front: ntp.front,
-    };
-    let called = ntp.course.apply(&mut clocks, 0, reading, cmd);
-    ntp.clock = clocks.clock;
-    ntp.front = clocks.front;
+    let called = ntp.course.apply(&mut ntp.clocks, 0, reading, cmd);
     code_of_call(called).number()
 }
 
@@ -212,21 +200,15 @@ fn apply_counted(ntp: &mut NtpParts, reading: u64, cmd: Command) -> u32
 pub extern "C" fn tkc_adjtimex(
     timex: &mut KernelTimex,
     state: &mut u32,
-    ntp: &mut NtpParts,
+    ntp: &mut CountedNtp,
     reading: u64,
 ) -> u32
     ensures { IsNtpAnswered (whole ntp.old) reading timex.old state.old result timex.new state.new
         (whole ntp.new) }
 {
-    let mut clocks = CountedClock {
-        clock: ntp.clock,
-        front: ntp.front,
-    };
     let answer = ntp
         .course
-        .adjtimex(&mut clocks, 0, reading, &timex.request());
-    ntp.clock = clocks.clock;
-    ntp.front = clocks.front;
+        .adjtimex(&mut ntp.clocks, 0, reading, &timex.request());
     match answer {
         Ok(reply) => {
             timex.answer(&reply);
@@ -238,7 +220,7 @@ pub extern "C" fn tkc_adjtimex(
 }
 
 /// Writes the reading at which the next second of REALTIME begins to `out`
-/// (`SteeredClock::next_second`).
+/// (`Course::next_second`).
 ///
 /// # Errors
 ///
@@ -247,25 +229,25 @@ pub extern "C" fn tkc_adjtimex(
 /// or REALTIME reaches its limit first.
 #[unsafe(no_mangle)]
 pub extern "C" fn tkc_ntp_next_second(out: &mut u64, ntp: &CountedNtp) -> u32
-    ensures { IsNextSecond ntp.now out.old out.new result }
+    ensures { IsNextSecond (whole ntp.now) out.old out.new result }
 {
-    match ntp.steered.next_second() {
+    match ntp.course.next_second(&ntp.clocks.clock) {
         Some(reading) => {
             *out = reading;
             Code::Done.number()
         }
-        None => unreached(ntp.steered.is_next_further()).number(),
+        None => unreached(ntp.course.is_next_further(&ntp.clocks.clock)).number(),
     }
 }
 
-/// Writes a snapshot of the clocks to `out` (`SteeredClock::snapshot`). Its front is the number of
+/// Writes a snapshot of the clocks to `out` (`Clock::snapshot`). Its front is the number of
 /// accepted commands.
 #[unsafe(no_mangle)]
 pub extern "C" fn tkc_ntp_snapshot(out: &mut SnapshotStorage, ntp: &CountedNtp)
     ensures { out.new ≡ snapshot_storage (record {
-      front = ntp.now.front;
-      base = ntp.now.steered.clock.base;
+      front = ntp.now.clocks.front;
+      base = ntp.now.clocks.clock.base;
     }) }
 {
-    store_snapshot(out, ntp.steered.snapshot(ntp.front));
+    store_snapshot(out, ntp.clocks.clock.snapshot(ntp.clocks.front));
 }

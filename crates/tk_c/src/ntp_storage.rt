@@ -2,7 +2,7 @@
 ghost use Rattle.std.specs.Prelude.{◌≡◌};
 ghost use Rattle.tk_c.specs.NtpStorage.{ntp_storage, discipline_storage};
 
-use crate::counted_ntp::CountedNtp;
+use crate::counted_ntp::{CountedNtp, SteeredCount};
 use crate::general_registers::store_base;
 use crate::storage::BaseStorage;
 use std::mem::size_of;
@@ -61,6 +61,8 @@ pub struct NtpStorage {
     pub frequency: i64,
     /// The tick in force, in microseconds.
     pub tick: i64,
+    /// The number of accepted commands.
+    pub front: u64,
     /// The discipline.
     pub ntp: DisciplineStorage,
     /// The lag.
@@ -71,13 +73,11 @@ pub struct NtpStorage {
     pub next: u64,
     /// The reading up to which the lag is accounted for.
     pub mark: u64,
-    /// The number of accepted commands.
-    pub front: u64,
 }
 
 /// Writes steered clocks field by field, so that the call's frame contains no copy of them.
 #[inline(never)]
-pub(crate) fn store_ntp(out: &mut NtpStorage, counted: &CountedNtp)
+pub(crate) fn store_ntp(out: &mut NtpStorage, counted: &SteeredCount)
     ensures { out.new ≡ ntp_storage counted.now.front counted.now.steered }
 {
     let clock = counted.steered.clock();

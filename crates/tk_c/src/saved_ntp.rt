@@ -1,11 +1,12 @@
 //! Converts steered clocks to words that contain their counter, and such words back to steered
 //! clocks.
 ghost use Rattle.std.specs.Prelude.{◌≡◌};
+ghost use Rattle.tk_c.specs.CountedNtp.{whole};
 ghost use Rattle.tk_c.specs.SavedNtp.{saved_ntp, counted_with, IsNtpRestored, IsNtpLoaded, LoadsAsNtp};
 
 use crate::code::Code;
 use crate::counted::CountedClock;
-use crate::counted_ntp::CountedNtp;
+use crate::counted_ntp::{CountedNtp, SteeredCount};
 use crate::ntp_storage::{NtpStorage, store_ntp};
 use crate::number_words::{NUMBER_WORDS, number_words, numbers_of_words};
 use crate::saved::{SAVED_WORDS, clock_of_words, tkc_clock_save};
@@ -15,17 +16,17 @@ use tk_ntp::{SteeredClock, SteeredNumbers};
 pub const NTP_SAVED_WORDS: usize = SAVED_WORDS + NUMBER_WORDS;
 
 /// Writes steered clocks as 33 words: the 15 of `tkc_clock_save` for their clocks, where word 0 is
-/// the number of accepted commands; and the 18 numbers of `SteeredClock::numbers`, in the order of
+/// the number of accepted commands; and the 18 numbers of `Course::numbers`, in the order of
 /// their fields, those with a sign in two's complement. `tkc_ntp_load` makes the same clocks from
 /// the words.
 #[unsafe(no_mangle)]
 pub extern "C" fn tkc_ntp_save(words: &mut [u64; NTP_SAVED_WORDS], ntp: &CountedNtp)
-    ensures value { words.new ≡ saved_ntp ntp.now }
-    ensures back { LoadsAsNtp words.new ntp.now }
+    ensures value { words.new ≡ saved_ntp (whole ntp.now) }
+    ensures back { LoadsAsNtp words.new (whole ntp.now) }
 {
     let mut first = [0; SAVED_WORDS];
-    tkc_clock_save(&mut first, &ntp.clocks());
-    let numbers = number_words(ntp.steered.numbers());
+    tkc_clock_save(&mut first, &ntp.clocks);
+    let numbers = number_words(ntp.course.numbers());
     words[..SAVED_WORDS].copy_from_slice(&first);
     words[SAVED_WORDS..].copy_from_slice(&numbers);
 }
@@ -63,11 +64,11 @@ fn restore(out: &mut NtpStorage, first: &[u64; SAVED_WORDS], rest: &[u64; NUMBER
 }
 
 /// Returns the steered clocks of these clocks and numbers, or `None` if there are none.
-fn counted_with(clock: CountedClock, numbers: Option<SteeredNumbers>) -> Option<CountedNtp>
+fn counted_with(clock: CountedClock, numbers: Option<SteeredNumbers>) -> Option<SteeredCount>
     ensures { result ≡ counted_with clock numbers }
 {
     let steered = SteeredClock::from_numbers(clock.clock, numbers?).ok()?;
-    Some(CountedNtp {
+    Some(SteeredCount {
         steered,
         front: clock.front,
     })

@@ -3,6 +3,7 @@ ghost use Rattle.std.specs.Prelude.{◌≡◌, ◌≤◌, ◌^◌, pos, unsigned
 ghost use Rattle.std.specs.Int.{int_div_euclid};
 ghost use Rattle.tk_ntp.specs.Length.{max_frequency};
 ghost use Rattle.tk_ntp.specs.Reply.{reply_freq};
+ghost use Rattle.tk_c.specs.CountedNtp.{whole};
 ghost use Rattle.tk_c.specs.SteeredParts.{IsComingLeap, leap_of_numbers};
 
 use crate::counted_ntp::CountedNtp;
@@ -13,9 +14,9 @@ use tk_ntp::{LeapNumbers, STA_DEL, STA_INS};
 /// `second`, unless none comes (`ntp_get_next_leap`).
 #[unsafe(no_mangle)]
 pub extern "C" fn tkc_ntp_leap(second: &mut u64, ntp: &CountedNtp) -> i64
-    ensures { IsComingLeap ntp.now.steered second.old second.new result }
+    ensures { IsComingLeap (whole ntp.now).steered second.old second.new result }
 {
-    let numbers = ntp.steered.numbers();
+    let numbers = ntp.course.numbers();
     let plan = numbers.steering.ntp.plan;
     let by = leap_of(plan, numbers.steering.ntp.status, numbers.next);
     if by == 0 {
@@ -44,18 +45,18 @@ fn leap_of(plan: LeapNumbers, status: u32, next: u64) -> i64
 /// Returns the status of the discipline, by the bits `STA_..`: the field `status` of a reply.
 #[unsafe(no_mangle)]
 pub extern "C" fn tkc_ntp_status(ntp: &CountedNtp) -> u32
-    ensures { result ≡ ntp.now.steered.steering.ntp.status }
+    ensures { result ≡ ntp.now.course.steering.ntp.status }
 {
-    ntp.steered.numbers().steering.ntp.status
+    ntp.course.numbers().steering.ntp.status
 }
 
 /// Returns the frequency of the discipline, in `2^-16` ppm: the field `freq` of a reply.
 #[tactic(auto, using(crate::proofs::Ranges::frequency_low))]
 #[unsafe(no_mangle)]
 pub extern "C" fn tkc_ntp_frequency(ntp: &CountedNtp) -> i64
-    ensures { result ≡ reply_freq ntp.now.steered.steering.ntp.frequency }
+    ensures { result ≡ reply_freq ntp.now.course.steering.ntp.frequency }
 {
-    replied(ntp.steered.numbers().steering.ntp.frequency)
+    replied(ntp.course.numbers().steering.ntp.frequency)
 }
 
 /// Returns a frequency in `2^-16` ppm, as a reply has it (`PPM_SCALE_INV`).
@@ -79,7 +80,7 @@ fn coarse(frequency: i64) -> i64
 /// reply.
 #[unsafe(no_mangle)]
 pub extern "C" fn tkc_ntp_tick_length(ntp: &CountedNtp) -> i64
-    ensures { result ≡ pos ntp.now.steered.steering.ntp.tick }
+    ensures { result ≡ pos ntp.now.course.steering.ntp.tick }
 {
-    i64::from(ntp.steered.numbers().steering.ntp.tick)
+    i64::from(ntp.course.numbers().steering.ntp.tick)
 }

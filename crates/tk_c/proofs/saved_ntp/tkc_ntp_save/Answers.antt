@@ -1,6 +1,6 @@
 use Rattle.std.proofs.Common.{rules, ◌≡◌, ℕ, ◌∙◌, sym, subst, refl, length, List}
 use Rattle.tk_c.specs.Saved.{saved}
-use Rattle.tk_c.specs.CountedNtp.{counted_clock}
+use Rattle.tk_c.specs.CountedNtp.{counted_clock, whole}
 use Rattle.tk_c.specs.SavedNtp.{number_words, LoadsAsNtp}
 use Rattle.tk_ntp.specs.Numbers.{steered_numbers}
 use Rattle.tk_c.proofs.LoadingNtp.{joined, loads}
@@ -8,12 +8,12 @@ use Rattle.tk_c.proofs.saved_ntp.tkc_ntp_save.Goals as goal
 
 pub returns-clause-value : goal.returns-clause-value
 returns-clause-value c =
-    let saved_clock = rw c.clocks.ensures at c.tkc_clock_save.ensures.value in
-    let first : c.copy_from_slice.new.self ≡ saved (counted_clock c.args.ntp.now) =
-    c.copy_from_slice.ensures.after ∙ saved_clock in
-    let numbers = rw c.numbers.ensures.value at c.number_words-numbers.ensures.value in
+    let ntp = whole c.args.ntp.now in
+    let first : c.copy_from_slice.new.self ≡ saved (counted_clock ntp) =
+    c.copy_from_slice.ensures.after ∙ c.tkc_clock_save.ensures.value in
+    let numbers = rw (c.numbers.ensures.value ntp.steered.clock) at c.number_words-numbers.ensures.value in
     let rest : c.copy_from_slice-2.new.self
-    ≡ number_words (steered_numbers c.args.ntp.now.steered) =
+    ≡ number_words (steered_numbers ntp.steered) =
     c.copy_from_slice-2.ensures.after ∙ numbers in
     let long : length c.copy_from_slice.new.self ≡ 15 = rw first refl in
     joined c.args.words.now c.copy_from_slice.new.self c.copy_from_slice-2.new.self c.told-words long
@@ -21,7 +21,9 @@ returns-clause-value c =
 
 pub returns-clause-back : goal.returns-clause-back
 returns-clause-back c =
-    let narrow = rw c.numbers.ensures.value at c.number_words-numbers.ensures.back in
-    let snapshot = rw c.clocks.ensures at c.tkc_clock_save.ensures.snapshot in
-    subst (λ (words : List ℕ). LoadsAsNtp words c.args.ntp.now) (sym (returns-clause-value c))
-    (loads c.args.ntp.now (search rules) narrow c.numbers.ensures.back (search rules) snapshot)
+    let ntp = whole c.args.ntp.now in
+    let clock = ntp.steered.clock in
+    let narrow = rw (c.numbers.ensures.value clock) at c.number_words-numbers.ensures.back in
+    subst (λ (words : List ℕ). LoadsAsNtp words ntp) (sym (returns-clause-value c))
+    (loads ntp (search rules) narrow (c.numbers.ensures.back clock) (search rules)
+    c.tkc_clock_save.ensures.snapshot)
