@@ -89,7 +89,7 @@
  *     - Link the archive of `tools/build_c --backend rattle`. The archive of LLVM uses the red zone
  *       below the stack pointer, and requires a stack that is aligned to 16 bytes.
  *     - tkc_snapshot_convert, tkc_ntp_open, tkc_ntp_open_at, tkc_ntp_advance,
- *       tkc_ntp_advance_late, tkc_ntp_apply, tkc_adjtimex, tkc_ntp_save and
+ *       tkc_ntp_advance_late, tkc_ntp_apply, tkc_ntp_tick, tkc_adjtimex, tkc_ntp_save and
  *       tkc_ntp_load use SSE registers: call them between kernel_fpu_begin() and kernel_fpu_end(),
  *       and only if irq_fpu_usable(). All other calls may then be made in any context.
  *   Two threads must not write one value at the same time, and no thread may write a value while
@@ -919,6 +919,32 @@ enum tkc_code tkc_ntp_advance_late(struct tkc_ntp *ntp, uint64_t reading);
 TKC_MUST_CHECK
 enum tkc_code tkc_ntp_apply(struct tkc_ntp *ntp, uint64_t reading, uint32_t command, int64_t number,
 			    uint32_t nsec);
+
+/* What a tick changed: bits of *changed of tkc_ntp_tick. */
+enum tkc_tick {
+	/* A second of REALTIME has begun: also with each leap second. */
+	TKC_TICK_SECOND = 1,
+	/* A leap second has moved REALTIME. */
+	TKC_TICK_LEAP = 2,
+	/* The clocks have another rate. */
+	TKC_TICK_RATE = 4,
+};
+
+/*
+ * Passes a tick (timekeeping_advance in kernel/time/timekeeping.c): tkc_ntp_advance_late at the
+ * reading, then TKC_CMD_UPDATE there, then tkc_ntp_snapshot into *out. *changed becomes the sum of
+ * the bits of enum tkc_tick that apply. If no second is due, which is so at most ticks, it takes
+ * little more time than the update. The update adds 1 to the front.
+ *
+ * Returns, in this order, and writes neither *out nor *changed then:
+ *   as tkc_ntp_advance_late
+ *             nothing has changed, except at TKC_FULL
+ *   TKC_FULL  the front is 2^63 - 3 or more before the update: the seconds up to the reading have
+ *             begun
+ */
+TKC_MUST_CHECK
+enum tkc_code tkc_ntp_tick(struct tkc_snapshot *out, uint32_t *changed, struct tkc_ntp *ntp,
+			   uint64_t reading);
 
 /*
  * Advances to the reading, does what a request asks for, and writes the reply into the same struct

@@ -73,6 +73,14 @@ class Session:
         self.began_late = self.steered.next - following + leap, leap
         return "ok"
 
+    def tick(self, reading):
+        following, tai, mult = self.steered.next, self.steered.clock.tai, self.steered.clock.mult()
+        self.steered.advance_late(reading)
+        self.steered.apply(reading, "update", 0, 0)
+        leap = self.steered.clock.tai - tai
+        changed = (self.steered.next - following + leap > 0, leap != 0, self.steered.clock.mult() != mult)
+        return f"tick,{sum(2**bit for bit, is_so in enumerate(changed) if is_so)}"
+
     def apply(self, reading, command, number, nsec):
         if command >= len(COMMANDS):
             raise Refused("bad_command")
@@ -129,7 +137,7 @@ class Records:
         if pick < 75:
             return f"get,{self.random.choice(list(CLOCKS))},{self.reading()}"
         if pick < 85:
-            return f"{self.random.choice(['advance', 'late'])},{self.reading()}"
+            return f"{self.random.choice(['advance', 'late', 'tick', 'tick'])},{self.reading()}"
         return self.command() if pick < 95 else self.random.choice(["next", "asked", "front"])
 
     def request(self, reading, fields):
@@ -157,7 +165,8 @@ class Records:
         first, second = (self.random.randrange(10**9) for _ in range(2))
         return [f"open,64,8388608,23,0,{DAY_END - 3},0,{self.random.choice([100, 250, 1000])}",
                 self.request(0, ntp_bounds.fields(ntp.STATUS | ntp.TAI, status=status, constant=tai)),
-                f"late,{10**9 + first}", "asked", f"late,{3 * 10**9 + second}", "asked"]
+                f"late,{10**9 + first}", "asked",
+                f"{self.random.choice(['late', 'tick'])},{3 * 10**9 + second}", "asked"]
 
     def reading(self):
         """A reading some seconds after the last one; seldom one behind it or the account, or above the mask."""

@@ -71,6 +71,17 @@ static void ntp_late(void *out)
 	made(tkc_ntp_advance_late(out, 4 * (uint64_t)SECOND));
 }
 
+/* The snapshot of a tick, with the seconds of `ntp_late`. */
+static void ntp_ticked(void *out)
+{
+	struct tkc_ntp ntp;
+	uint32_t changed;
+
+	ntp_steered(&ntp);
+	made(tkc_ntp_tick(out, &changed, &ntp, 4 * (uint64_t)SECOND));
+	check(changed == (TKC_TICK_SECOND | TKC_TICK_LEAP | TKC_TICK_RATE));
+}
+
 static void ntp_commanded(void *out)
 {
 	static const uint32_t commands[] = { TKC_CMD_UPDATE, TKC_CMD_STEP, TKC_CMD_FREQ,
@@ -142,5 +153,6 @@ const struct filled filled_ntp[] = {
 	{ "ntp_reply", ntp_reply, sizeof(struct tkc_timex) },
 	{ "ntp_leap", ntp_leap, sizeof(uint64_t) },
 	{ "ntp_snapshot", ntp_snapshot, sizeof(struct tkc_snapshot) },
+	{ "ntp_ticked", ntp_ticked, sizeof(struct tkc_snapshot) },
 	{ NULL, NULL, 0 },
 };

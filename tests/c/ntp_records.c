@@ -104,6 +104,27 @@ static void advance_late(struct session *session, const struct record *record, c
 	print_code(line, "ok", code);
 }
 
+static void tick(struct session *session, const struct record *record, char *line)
+{
+	struct tkc_ntp before = session->ntp;
+	struct tkc_snapshot snapshot, wanted;
+	uint32_t changed = 77;
+	uint32_t code;
+
+	memset(&snapshot, 0xa5, sizeof(snapshot));
+	memset(&wanted, 0xa5, sizeof(wanted));
+	code = tkc_ntp_tick(&snapshot, &changed, &session->ntp, record->numbers[0]);
+	if (code) {
+		check(changed == 77 && !memcmp(&session->ntp, &before, sizeof(before)));
+		check(!memcmp(&snapshot, &wanted, sizeof(wanted)));
+		print_code(line, "", code);
+		return;
+	}
+	tkc_ntp_snapshot(&wanted, &session->ntp);
+	check(!memcmp(&snapshot, &wanted, sizeof(wanted)));
+	snprintf(line, LINE_SIZE, "tick,%" PRIu32, changed);
+}
+
 static void apply_command(struct session *session, const struct record *record, char *line)
 {
 	const uint64_t *n = record->numbers;
@@ -232,6 +253,8 @@ void answer(struct session *session, const char *text, char line[LINE_SIZE])
 		advance(session, &record, line);
 	else if (!strcmp(record.word, "late"))
 		advance_late(session, &record, line);
+	else if (!strcmp(record.word, "tick"))
+		tick(session, &record, line);
 	else if (!strcmp(record.word, "apply"))
 		apply_command(session, &record, line);
 	else if (!strcmp(record.word, "adjtimex"))

@@ -367,6 +367,30 @@ static const struct ntp_row fronts[] = {
 	{ "front", "front,19" },
 };
 
+/* Ticks of a kernel: what changed is a sum of bits. A second is inserted at the reading 3 s, and
+ * from 4 s on each second has another rate. Each tick is a command, and so are the leap and the
+ * rates. */
+static const struct ntp_row kernel_ticks[] = {
+	{ "openhz,64,1000000000,600,0,1483228797,0,250", "open" },
+	{ "adjtimex,0,0x10,0,0,0,0,16,0,0,0,0",
+	  "adj,ok,1483228797.000000,0,0,16000000,16000000,16,2,10000,0" },
+	{ "tick,999999999", "tick,0" },
+	{ "tick,1000000000", "tick,1" },
+	{ "tick,2000000000", "tick,1" },
+	{ "tick,2999999999", "tick,0" },
+	{ "tick,3000000000", "tick,3" },
+	{ "front", "front,6" },
+	{ "adjtimex,3000000000,0x2035,100000000,0,0,0,1,6,0,0,0",
+	  "adj,oop,1483228799.000000000,100000000,0,0,16000000,8193,6,10000,1" },
+	{ "tick,3500000000", "tick,0" },
+	{ "tick,4000000000", "tick,5" },
+	{ "tick,4000000000", "tick,0" },
+	{ "tick,9000000000", "tick,5" },
+	{ "front", "front,16" },
+	{ "tick,8000000000", "no,TKC_BEHIND" },
+	{ "get,0,9000000000", "at,1483228805.001953123" },
+};
+
 /* A leap second is one command, and so is each step that leaves the rate. */
 static const struct ntp_row leap_fronts[] = {
 	{ "openhz,64,1000000000,600,0,1483228797,499000000,250", "open" },
@@ -418,5 +442,6 @@ void try_ntp(void)
 	try_each(inserted_late, try_row);
 	try_each(late_refused, try_row);
 	try_each(fronts, try_row);
+	try_each(kernel_ticks, try_row);
 	try_each(leap_fronts, try_row);
 }

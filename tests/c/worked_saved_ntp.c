@@ -190,11 +190,14 @@ static void try_late_reading(const struct late_reading *row)
 {
 	struct tkc_timex timex = { .modes = 0 };
 	struct tkc_ntp ntp = late(), before = ntp;
-	uint32_t state;
+	struct tkc_snapshot snapshot;
+	uint32_t state, changed = 77;
 
 	check(tkc_ntp_advance(&ntp, row->reading) == row->code);
 	check(tkc_ntp_advance_late(&ntp, row->reading) == row->code);
 	check(tkc_ntp_apply(&ntp, row->reading, TKC_CMD_UPDATE, 0, 0) == row->code);
+	check(tkc_ntp_tick(&snapshot, &changed, &ntp, row->reading) == row->code);
+	check(changed == 77);
 	check(tkc_adjtimex(&timex, &state, &ntp, row->reading) == row->code);
 	check(!memcmp(&ntp, &before, sizeof(ntp)));
 }
@@ -247,7 +250,8 @@ static void try_full_front(const struct full_front *row)
 	struct tkc_timex timex = { .modes = 0 };
 	uint64_t words[TKC_NTP_SAVED_WORDS], reading = row->reading;
 	struct tkc_ntp ntp, before;
-	uint32_t state = 77;
+	struct tkc_snapshot snapshot;
+	uint32_t state = 77, changed = 77;
 
 	memcpy(words, steered_words, sizeof(words));
 	words[0] = row->front;
@@ -261,6 +265,10 @@ static void try_full_front(const struct full_front *row)
 	ntp = before;
 	check_counted(&before, &ntp, tkc_ntp_apply(&ntp, reading, TKC_CMD_UPDATE, 0, 0),
 		      row->update, 1);
+	ntp = before;
+	check_counted(&before, &ntp, tkc_ntp_tick(&snapshot, &changed, &ntp, reading), row->update,
+		      1);
+	check((changed == 77) == (row->update != TKC_OK));
 	ntp = before;
 	check_counted(&before, &ntp, tkc_ntp_apply(&ntp, reading, TKC_CMD_FREQ, 65536000, 0),
 		      row->request, 1);

@@ -23,3 +23,4 @@ pub mod Room
 pub mod Counting
 pub mod CountedNtp
 pub mod Cycles
+pub mod Ticks

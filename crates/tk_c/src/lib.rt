@@ -6,7 +6,7 @@
 //! | `tkc_counter_*` | make counters from numbers or from a rate, also with the finest mult; store a counter's numbers, compute with its cycles |
 //! | `tkc_clock_*` | open the running clocks, apply commands, change the counter, return the frequency and the tick, convert clocks to and from words, with their counter or without |
 //! | `tkc_snapshot_*` | read one time, at a reading or at the last command, or a list of times; test a step; find the reading of a time, return a clock's line and a snapshot's numbers, convert snapshots to and from words |
-//! | `tkc_ntp_*`, `tkc_adjtimex` | open steered clocks, advance them, apply commands, answer requests, return the coming leap and numbers of the discipline, convert them to and from words with their counter |
+//! | `tkc_ntp_*`, `tkc_adjtimex` | open steered clocks, advance them, apply commands, pass ticks, answer requests, return the coming leap and numbers of the discipline, convert them to and from words with their counter |
 //! | `tkc_version` | returns the archive's version |
 //! | `CountedClock` | the clocks with their count of commands, `struct tkc_clock` in C |
 //! | `CountedNtp`, `SteeredCount`, `NtpStorage` | steered clocks with their count of commands, `struct tkc_ntp` in C |
@@ -41,6 +41,7 @@ mod snapshots;
 mod steered_parts;
 mod steps;
 mod storage;
+mod ticks;
 mod timex;
 mod version;
 mod words;
@@ -73,6 +74,7 @@ pub use snapshots::{tkc_snapshot_convert, tkc_snapshot_get};
 pub use steered_parts::{tkc_ntp_frequency, tkc_ntp_leap, tkc_ntp_status, tkc_ntp_tick_length};
 pub use steps::tkc_snapshot_step;
 pub use storage::{BaseStorage, ClockStorage, CounterStorage, SnapshotStorage, TimeStorage};
+pub use ticks::{TICK_LEAP, TICK_RATE, TICK_SECOND, TickMarks, tkc_ntp_tick};
 pub use timex::KernelTimex;
 pub use version::tkc_version;
 pub use words::{

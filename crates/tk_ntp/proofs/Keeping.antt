@@ -1,6 +1,6 @@
 -- Seconds that begin, whoever keeps the clocks.
-use Rattle.std.proofs.Common.{◌≡◌, refl, sym, ap, ◌∙◌, ℕ, ◌+◌, ◌<◌, arith, inr, Bool, true, false, List, []}
-use Rattle.std.specs.Prelude.{⊤, Option, Some, None, Result, Ok, Err, MatchOption, if◌then◌else◌}
+use Rattle.std.proofs.Common.{◌≡◌, refl, sym, ap, ◌∙◌, ℕ, ◌+◌, ◌<◌, arith, inl, inr, Bool, true, false, List, []}
+use Rattle.std.specs.Prelude.{⊤, Option, Some, None, Result, Ok, Err, MatchOption, MatchResult, ◌⊎◌, if◌then◌else◌}
 use Rattle.tk_clock.specs.declared.command.Entry.{Entry}
 use Rattle.tk_clock.specs.declared.refusal.Refusal.{Refusal}
 use Rattle.tk_clock.specs.declared.refusal.Refusal.TheVariants.{Invalid}
@@ -15,7 +15,7 @@ use Rattle.tk_ntp.specs.Advance.{leapt, seconds_left, IsNoneDue}
 use Rattle.tk_ntp.specs.Course.{Course, seen}
 use Rattle.tk_ntp.specs.Entries.{given_at, second_begun, with_second}
 use Rattle.tk_ntp.specs.Fault.{is_faulty}
-use Rattle.tk_ntp.specs.Keeping.{HasArrived, IsAdvancedTo, IsAnsweredTo, IsAskedTo, IsCommandedTo, IsFollowedTo, IsFollowing, IsReady, Still, request_most, second_most}
+use Rattle.tk_ntp.specs.Keeping.{HasArrived, IsAdvancedTo, IsAnsweredTo, IsAskedTo, IsCommandedTo, IsFollowedTo, IsFollowing, IsReady, IsStopped, IsTickedTo, Still, request_most, second_most}
 use Rattle.tk_ntp.specs.Second.{leap_at}
 use Rattle.tk_ntp.specs.Staged.{IsSettled}
 use Rattle.tk_ntp.specs.SteeredClock.{SteeredClock, after_or, given, reading_refusal, steered_at}
@@ -90,6 +90,59 @@ module _ {X : Type 0} (state : X → State) (is_after : X → List Entry → X �
       followed-by stays (state_refusal (state a) reading Update)
       (order_refusal (state a).base.counter before.mark reading Update) who reading a before
       result b after settled.none settled.order refl room h
+
+  ticked-by : (stays : (a : X) → is_after a [] a) (refused order : Option Refusal)
+      (who reading : ℕ) (a : X) (before : Course) (result : Result ⊤ Refusal) (b : X)
+      (after : Course) → IsNoneDue (seen (state a) before) reading → order ≡ None →
+      state_refusal (state a) reading Update ≡ refused → has_room 3 a →
+      IsCommandedTo state is_after has_room is_short who reading Update a before result b after →
+      (MatchOption (first_of refused order)
+      (HasArrived state is_after has_room is_short true who reading a before a before)
+      (λ refusal. (Ok (tt {0}) ≡ Err refusal) × (a ≡ a) × (before ≡ before))
+      × MatchOption (first_of refused order)
+      (IsFollowing state is_after has_room is_short second_most who reading
+      (λ x middle. IsCommandedTo state is_after has_room is_short who reading Update x middle
+      result b after) a before result b after)
+      (λ refusal. (result ≡ Err refusal) × (b ≡ a) × (after ≡ before)))
+      ⊎ MatchResult result (λ _. ⊥)
+      (λ given. MatchOption (first_of refused order)
+      (IsStopped state is_after has_room is_short true who reading a before given b after)
+      (λ refusal. ◌≡◌ {A = Result ⊤ Refusal} (Err given) (Err refusal) × (b ≡ a)
+      × (after ≡ before)))
+  ticked-by stays None None who reading a before result b after none is is' room h = inl (
+    record { begun = Still a before; none = none },
+    followed-by stays None None who reading a before result b after none is is' room h,
+  )
+  ticked-by stays None (Some refusal) who reading a before result b after none is is' room h =
+      absurd (cc is)
+  ticked-by stays (Some refusal) order who reading a before (Ok done) b after none is is' room h =
+      absurd (cc (sym is' ∙ h.answer.0))
+  ticked-by stays (Some refusal) order who reading a before (Err given) b after none is is' room h =
+      inr (followed-by stays (Some refusal) order who reading a before (Err given) b after none is
+      is' room h)
+
+  stated : (who reading : ℕ) (a : X) (before : Course) (result : Result ⊤ Refusal) (b : X)
+      (after : Course) →
+      (IsAdvancedTo state is_after has_room is_short true who reading a before (Ok (tt {0})) a before
+      × IsFollowedTo state is_after has_room is_short who reading Update a before result b after)
+      ⊎ MatchResult result (λ _. ⊥)
+      (λ refusal. IsAdvancedTo state is_after has_room is_short true who reading a before
+      (Err refusal) b after) →
+      IsTickedTo state is_after has_room is_short who reading a before result b after
+  stated who reading a before result b after (inl h) = inl (a, before, h.0, h.1)
+  stated who reading a before result b after (inr h) = inr h
+
+  -- a tick of settled clocks, before which no second begins
+  pub ticked : (stays : (a : X) → is_after a [] a) (who reading : ℕ) (a : X) (before : Course)
+      (result : Result ⊤ Refusal) (b : X) (after : Course) →
+      IsSettled (seen (state a) before) reading → has_room 3 a →
+      IsCommandedTo state is_after has_room is_short who reading Update a before result b after →
+      IsTickedTo state is_after has_room is_short who reading a before result b after
+  ticked stays who reading a before result b after settled room h =
+      stated who reading a before result b after
+      (ticked-by stays (state_refusal (state a) reading Update)
+      (order_refusal (state a).base.counter before.mark reading Update) who reading a before
+      result b after settled.none settled.order refl room h)
 
   answered-by : (faulty : Bool) (refused : Option Refusal) (who reading : ℕ) (request : Timex)
       (a x ready : X) (before middle : Course) (result : Result Reply Refusal) (b : X)

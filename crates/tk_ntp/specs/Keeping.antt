@@ -1,8 +1,9 @@
 -- A discipline gives its commands to whatever keeps the clocks: `state` is what the clocks are,
 -- `is_after` says which accepted entries came, `has_room` whether there is room for more of them, and
 -- `is_short` why there isn't.
-use Rattle.std.specs.Prelude.{◌≡◌, ◌⊎◌, ℕ, ⊤, Bool, true, false, Option, Result, Err, MatchOption, MatchResult, List, []}
+use Rattle.std.specs.Prelude.{◌≡◌, ◌⊎◌, ℕ, ⊤, Bool, true, false, Option, Result, Ok, Err, MatchOption, MatchResult, List, []}
 use Rattle.tk_clock.specs.declared.command.Command.{Command}
+use Rattle.tk_clock.specs.declared.command.Command.TheVariants.{Update}
 use Rattle.tk_clock.specs.declared.command.Entry.{Entry}
 use Rattle.tk_clock.specs.declared.refusal.Refusal.{Refusal}
 use Rattle.tk_clock.specs.declared.timespec.Timespec.{Timespec}
@@ -174,3 +175,13 @@ module _ {X : Type 0} (state : X → State) (is_after : X → List Entry → X �
       (λ request. (answer : Result Reply Refusal)
       × IsAnsweredTo who reading request a before answer b after
       × (result ≡ without_reply answer))
+
+  -- the result of a tick, and the state after it: the seconds up to its reading begin late, and then
+  -- the clocks are updated
+  abbrev pub IsTickedTo : ℕ → ℕ → X → Course → Result ⊤ Refusal → X → Course → Type 0
+  IsTickedTo who reading a before result b after =
+      ((x : X) × (middle : Course)
+      × IsAdvancedTo true who reading a before (Ok (tt {0})) x middle
+      × IsFollowedTo who reading Update x middle result b after)
+      ⊎ MatchResult result (λ _. ⊥)
+      (λ refusal. IsAdvancedTo true who reading a before (Err refusal) b after)

@@ -8,6 +8,7 @@ mod commanding;
 mod due;
 mod following;
 mod giving;
+mod ticking;
 
 use crate::change::Change;
 use crate::numbers::SteeredNumbers;
@@ -88,6 +89,14 @@ impl Course {
         ensures { result ≡ second_length self.now.steering.ntp }
     {
         self.steering.second_length()
+    }
+
+    /// Returns the second of REALTIME that begins next, in seconds since 1970.
+    #[inline(always)]
+    pub fn coming_second(&self) -> u64
+        ensures value { result ≡ self.now.next }
+    {
+        self.next
     }
 
     /// Returns the reading up to which the lag is accounted for, in cycles.

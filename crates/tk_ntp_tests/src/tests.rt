@@ -14,6 +14,7 @@ mod numbers;
 mod rates;
 mod readings;
 mod requests;
+mod ticks;
 mod uptimes;
 
 /// A discipline at a second of REALTIME.
