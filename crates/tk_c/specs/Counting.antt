@@ -1,5 +1,5 @@
 -- The laws of room and of counted commands: what whoever steers the clocks may count on.
-use Rattle.std.proofs.Common.{◌≡◌, sym, ℕ, ◌+◌, List, [], ◌++◌, length, arith}
+use Rattle.std.proofs.Common.{ℕ, ◌+◌, List, [], ◌++◌, arith}
 use Rattle.std.proofs.lemmas.List.{length-append}
 use Rattle.tk_clock.specs.declared.command.Entry.{Entry}
 use Rattle.tk_c.specs.declared.counted.CountedClock.{CountedClock}

@@ -1,5 +1,7 @@
 //! Converts clocks to words that contain their counter, and such words back to clocks.
 ghost use Rattle.std.specs.Prelude.{◌≡◌, None, Some, take, MatchOption};
+ghost use Rattle.tk_counter.specs.Counter.{IsCounter};
+ghost use Rattle.tk_clock.specs.Running.{IsRunning};
 ghost use Rattle.tk_clock.specs.Words.{words_of, restored};
 ghost use Rattle.tk_c.specs.Counted.{counted_snapshot};
 ghost use Rattle.tk_c.specs.Restored.{IsClockOf};
@@ -22,6 +24,8 @@ pub extern "C" fn tkc_clock_save(words: &mut [u64; SAVED_WORDS], clock: &Counted
     ensures value { words.new ≡ saved clock.now }
     ensures snapshot { restored clock.now.clock.base.counter (words_of (counted_snapshot clock.now))
         ≡ Some (counted_snapshot clock.now) }
+    ensures counter { IsCounter clock.now.clock.base.counter }
+    ensures running { let state = clock.now.clock in IsRunning state.base state.frequency state.tick }
     ensures back { LoadsAs words.new clock.now }
 {
     let snapshot = clock.clock.snapshot(clock.front);

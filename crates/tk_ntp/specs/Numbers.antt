@@ -5,6 +5,7 @@ use Rattle.tk_ntp.specs.declared.numbers.LeapNumbers.{LeapNumbers}
 use Rattle.tk_ntp.specs.declared.numbers.DisciplineNumbers.{DisciplineNumbers}
 use Rattle.tk_ntp.specs.declared.numbers.SteeringNumbers.{SteeringNumbers}
 use Rattle.tk_ntp.specs.declared.numbers.SteeredNumbers.{SteeredNumbers}
+use Rattle.tk_ntp.specs.Course.{Course, course_of}
 use Rattle.tk_ntp.specs.Lag.{least_lag}
 use Rattle.tk_ntp.specs.Leap.{LeapPlan, number_of, is_due_in, due_in}
 use Rattle.tk_ntp.specs.Ntp.{Ntp}
@@ -50,10 +51,14 @@ steering_numbers steered = record {
   lag = lag_numbers steered.lag;
 }
 
+-- the course of a discipline
+abbrev pub course_numbers : Course → SteeredNumbers
+course_numbers course = record {
+  steering = steering_numbers course.steering;
+  next = course.next;
+  mark = course.mark;
+}
+
 -- steered clocks, without their clocks
 abbrev pub steered_numbers : SteeredClock → SteeredNumbers
-steered_numbers steered = record {
-  steering = steering_numbers steered.steering;
-  next = steered.next;
-  mark = steered.mark;
-}
+steered_numbers steered = course_numbers (course_of steered)

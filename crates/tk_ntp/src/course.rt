@@ -65,7 +65,7 @@ impl Course {
     ghost use Rattle.tk_ntp.specs.Course.{seen};
     ghost use Rattle.tk_ntp.specs.Fault.{is_faulty};
     ghost use Rattle.tk_ntp.specs.Ntp.{second_length};
-    ghost use Rattle.tk_ntp.specs.Numbers.{steered_numbers};
+    ghost use Rattle.tk_ntp.specs.Numbers.{course_numbers, steered_numbers};
     ghost use Rattle.tk_ntp.specs.Reply.{reply_to};
     ghost use Rattle.tk_ntp.specs.Restored.{steered_from};
     ghost use Rattle.tk_ntp.specs.Steering.{commands};
@@ -73,7 +73,7 @@ impl Course {
 
     /// Returns the numbers that the discipline, the lag, the next second and the mark are kept in.
     pub fn numbers(&self) -> SteeredNumbers
-        ensures value { (clock : State) → result ≡ steered_numbers (seen clock self.now) }
+        ensures value { result ≡ course_numbers self.now }
         ensures back { (clock : State) → let steered = seen clock self.now in
             steered_from clock (steered_numbers steered) ≡ Ok steered }
     {

@@ -1,4 +1,4 @@
-use Rattle.std.proofs.Common.{rules, ◌≡◌, ℕ, ◌∙◌, sym, subst, refl, length, List}
+use Rattle.std.proofs.Common.{◌≡◌, ℕ, ◌∙◌, sym, subst, refl, length, List}
 use Rattle.tk_c.specs.Saved.{saved}
 use Rattle.tk_c.specs.CountedNtp.{counted_clock, whole}
 use Rattle.tk_c.specs.SavedNtp.{number_words, LoadsAsNtp}
@@ -11,7 +11,7 @@ returns-clause-value c =
     let ntp = whole c.args.ntp.now in
     let first : c.copy_from_slice.new.self ≡ saved (counted_clock ntp) =
     c.copy_from_slice.ensures.after ∙ c.tkc_clock_save.ensures.value in
-    let numbers = rw (c.numbers.ensures.value ntp.steered.clock) at c.number_words-numbers.ensures.value in
+    let numbers = rw c.numbers.ensures.value at c.number_words-numbers.ensures.value in
     let rest : c.copy_from_slice-2.new.self
     ≡ number_words (steered_numbers ntp.steered) =
     c.copy_from_slice-2.ensures.after ∙ numbers in
@@ -23,7 +23,7 @@ pub returns-clause-back : goal.returns-clause-back
 returns-clause-back c =
     let ntp = whole c.args.ntp.now in
     let clock = ntp.steered.clock in
-    let narrow = rw (c.numbers.ensures.value clock) at c.number_words-numbers.ensures.back in
+    let narrow = rw c.numbers.ensures.value at c.number_words-numbers.ensures.back in
     subst (λ (words : List ℕ). LoadsAsNtp words ntp) (sym (returns-clause-value c))
-    (loads ntp (search rules) narrow (c.numbers.ensures.back clock) (search rules)
-    c.tkc_clock_save.ensures.snapshot)
+    (loads ntp c.tkc_clock_save.ensures.running narrow (c.numbers.ensures.back clock)
+    c.tkc_clock_save.ensures.counter c.tkc_clock_save.ensures.snapshot)

@@ -10,5 +10,5 @@ replied-requires c =
     let steered = (whole c.args.ntp.now).steered in
     let low = frequency_low steered.clock (steered_numbers steered) steered
     (c.numbers.ensures.back steered.clock) in
-    let same = c.numbers.ensures.value steered.clock in
+    let same = c.numbers.ensures.value in
     rw same (rw (to_z-of_z w64 steered.steering.ntp.frequency (omega (arith, ints, low))) low)

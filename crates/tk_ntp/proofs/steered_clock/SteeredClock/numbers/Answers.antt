@@ -7,7 +7,7 @@ use Rattle.tk_ntp.proofs.steered_clock.SteeredClock.numbers.Goals as goal
 
 pub returns-clause-value : goal.returns-clause-value
 returns-clause-value c =
-    c.numbers.ensures.value c.self.inside.clock ∙ ap steered_numbers c.self.view_is
+    c.numbers.ensures.value ∙ ap steered_numbers c.self.view_is
 
 pub returns-clause-back : goal.returns-clause-back
 returns-clause-back c =
