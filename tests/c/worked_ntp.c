@@ -388,7 +388,7 @@ static const struct ntp_row kernel_ticks[] = {
 	{ "tick,9000000000", "tick,5" },
 	{ "front", "front,16" },
 	{ "tick,8000000000", "no,TKC_BEHIND" },
-	{ "get,0,9000000000", "at,1483228805.001953123" },
+	{ "get,0,9000000000", "at,1483228805.001952648" },
 };
 
 /* A leap second is one command, and so is each step that leaves the rate. */
