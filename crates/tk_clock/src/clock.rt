@@ -1,4 +1,4 @@
-ghost use Rattle.std.specs.Prelude.{◌≡◌, ◌≤◌, ◌⊎◌, true, false, MatchOption, MatchResult, Some, None};
+ghost use Rattle.std.specs.Prelude.{◌≡◌, ◌≤◌, ◌⊎◌, ◌↔◌, IsTrue, true, false, MatchOption, MatchResult, Some, None};
 
 mod change_counter;
 mod effects;
@@ -51,6 +51,7 @@ impl Clock {
     ghost use Rattle.tk_clock.specs.Refusal.{opening_refusal, early_refusal, state_value_refusal, state_refusal};
     ghost use Rattle.tk_clock.specs.State.{state_of, effect};
     ghost use Rattle.tk_clock.specs.Effect.{IsForwarded, IsEarly};
+    ghost use Rattle.tk_clock.specs.Further.{IsFurther};
     ghost use Rattle.tk_clock.specs.Reach.{IsFirstReached, IsNeverReached};
     ghost use Rattle.tk_clock.specs.Time.{nanoseconds};
 
@@ -248,5 +249,13 @@ impl Clock {
             (λ reading. IsFirstReached self.now.base clock nanos reading) }
     {
         self.base.reading_at(clock, time)
+    }
+
+    /// Returns whether `time` is further away than `reading_at` searches, as `Snapshot::is_further`
+    /// does, but without a copy of the clocks.
+    pub fn is_further(&self, clock: ClockId, time: Timespec) -> bool
+        ensures { IsTrue result ↔ IsFurther self.now.base clock (nanoseconds time) }
+    {
+        self.base.is_further(clock, time)
     }
 }

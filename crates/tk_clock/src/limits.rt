@@ -92,6 +92,7 @@ fn is_leap(by: i64) -> bool
 
 /// Returns whether a command's numbers are in their ranges.
 #[tactic(auto, unfolding(crate::specs::Limits::is_well_formed))]
+#[inline(always)]
 pub(crate) fn is_well_formed(cmd: Command) -> bool
     ensures { result ≡ is_well_formed cmd }
 {

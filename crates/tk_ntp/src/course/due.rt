@@ -125,9 +125,7 @@ impl Course {
         ensures { let nanos = nanoseconds (second_time self.now.next) in
             IsTrue result ↔ IsFurther clock.now.base Realtime nanos }
     {
-        clock
-            .snapshot(0)
-            .is_further(ClockId::Realtime, self.next_time())
+        clock.is_further(ClockId::Realtime, self.next_time())
     }
 
     /// Returns a number of cycles: no second is due at readings that are fewer cycles after the last
