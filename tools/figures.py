@@ -112,7 +112,8 @@ def other_counts(found):
 
 def other_sse_calls(found):
     """Lists of the calls that use SSE registers, and their numbers, which the header has otherwise."""
-    listed = SSE_CALLS.search((ROOT / HEADER).read_text(encoding="utf-8").replace("\n *", " "))
+    header = (ROOT / HEADER).read_text(encoding="utf-8").replace("\n *", " ")
+    listed = SSE_CALLS.search(" ".join(header.split()))
     calls = set(CALL.findall(listed[1]))
     counts = {NOT_ANYWHERE: len(calls), STEERED: len(calls - {CONVERT})}
     for page in found.values():

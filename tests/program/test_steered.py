@@ -10,7 +10,9 @@ STEERED = "openhz,64,1000000000,600,0,1700000000,500000000,250\n"
 OPEN = "open,64,8388608,23\n"
 
 
-PAGE = pathlib.Path(__file__).resolve().parents[2] / "docs/TKCORE.md"
+TOP = pathlib.Path(__file__).resolve().parents[2]
+PAGE = TOP / "docs/TKCORE.md"
+HEADER = TOP / "include/tkcore.h"  # the home of the words of steered clocks
 HALF_A_SECOND, MOST_GAINED = 500_000_000 * 2**32, 500_000 * 2**32  # as lengths
 NO_LAG = 2**60
 
@@ -71,12 +73,18 @@ adj,error,1700000005.000000000,0,0,16000000,16000000,8257,6,10000,0,1
         self.check_report(STEERED + 2 * request(0, 0x80, constant=37) + request(0, 0x80, constant=100_001),
                           OPEN + 3 * reply)
 
+    def assert_documented(self, *sentences):
+        header = " ".join(HEADER.read_text(encoding="utf-8").replace("\n *", " ").split())
+        for sentence in sentences:
+            self.assertIn(sentence, header)
+
     def test_the_bounds_of_a_continued_phase(self):
-        page = PAGE.read_text(encoding="utf-8")
-        for name, range_ in [("offset", "half a second divided by HZ, rounded down, in either direction"),
-                             ("phase", "half a second divided by HZ, plus 500 microseconds divided by HZ, both rounded "
-                                       "down, in either direction")]:
-            self.assertRegex(page, rf"(?m)^\| `{name}` .* \| {range_} \|$")
+        self.assert_documented("S and F are the lengths of half a second and of 500 us.",
+                               "20 the phase still to give in each of the hz parts of a second: a length from "
+                               "-(S / hz) to S / hz",
+                               "28 the phase of the present second, in each of its hz parts: a length up to "
+                               "S / hz + F / hz in either direction",
+                               "All divisions round down.")
         for hz in (1, 2, 3, 7, 9, 250, 1_000, 1_023, 1_024):
             offset, phase = HALF_A_SECOND // hz, HALF_A_SECOND // hz + MOST_GAINED // hz
             for name, most in [("offset", offset), ("phase", phase)]:
@@ -87,7 +95,8 @@ adj,error,1700000005.000000000,0,0,16000000,16000000,8257,6,10000,0,1
                     self.check_fault(continued(0, 10**9, **given), "record 1: not a valid opening")
 
     def test_a_continued_mark_is_any_number(self):
-        self.assertRegex(PAGE.read_text(encoding="utf-8"), r"(?m)^\| `mark` .* \| any; taken modulo 2\^bits \|$")
+        self.assert_documented("32 the reading up to which words 29 and 30 account for the cycles: any number")
+        self.assertIn("Word 32 is taken modulo 2^bits.", " ".join(PAGE.read_text(encoding="utf-8").split()))
         for mark in (0, 6, 7, 2**63, 2**64 - 1):
             self.check_report(continued(0, 10**9, mark=mark), "open,64,16777216,24\n")
         # 32 bits: the marks 9 and 2^32 + 9 are the same reading
