@@ -33,3 +33,4 @@ pub mod Early
 pub mod Followed
 pub mod Numbers
 pub mod Restored
+pub mod ChangeCounter

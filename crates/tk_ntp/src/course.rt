@@ -9,6 +9,7 @@ mod due;
 mod following;
 mod giving;
 mod ticking;
+mod turning;
 
 use crate::change::Change;
 use crate::numbers::SteeredNumbers;

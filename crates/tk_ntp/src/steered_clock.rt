@@ -2,6 +2,7 @@ ghost use Rattle.std.specs.Prelude.{◌≡◌, ◌≤◌, ◌*ℤ◌, ◌≤ℤ�
 
 mod advancing;
 mod asking;
+mod change_counter;
 mod numbers;
 mod uptime;
 

@@ -48,6 +48,7 @@ impl Steering {
     ghost use Rattle.tk_ntp.specs.Reply.{reply_to};
     ghost use Rattle.tk_ntp.specs.Second.{leap_at};
     ghost use Rattle.tk_ntp.specs.Change.{multiplier_at, changed};
+    ghost use Rattle.tk_ntp.specs.ChangeCounter.{lag_over};
     ghost use Rattle.tk_ntp.specs.Rate.{IsInRange, IsGiven, IsNearUsual};
 
     /// Steers by a discipline, without a lag.
@@ -95,6 +96,13 @@ impl Steering {
         ensures { self.new ≡ accounted desc mult cycles self.old }
     {
         self.lag.account(desc, self.length, mult, cycles);
+    }
+
+    /// Carries the lag over from the counter `from` to the counter `desc`.
+    pub(crate) fn carry_over(&mut self, from: CounterDesc, desc: CounterDesc)
+        ensures { self.new ≡ record self.old { lag = lag_over from desc self.old.lag } }
+    {
+        self.lag.carry_over(from, desc);
     }
 
     /// Lets the second `sec` of REALTIME begin, `cycles` after the last account, and returns what
