@@ -40,3 +40,4 @@ pub mod Due
 pub mod Multipliers
 pub mod Unchanged
 pub mod Worked
+mod Turning

@@ -154,9 +154,18 @@ impl Lag {
     pub(crate) fn carry_over(&mut self, from: CounterDesc, desc: CounterDesc)
         ensures { self.new ≡ lag_over from desc self.old }
     {
-        let most = greatest_lag(from);
-        let lag = self.amount().clamp(-most, most);
+        let lag = self.within(from);
         *self = Lag::of_amount(rescaled_lag(from.shift(), desc.shift(), lag));
+    }
+
+    /// Returns the lag, at most the greatest one of the counter `desc` in either direction.
+    fn within(&self, desc: CounterDesc) -> i128
+        ensures value { result ≡ clamped_by (greatest_lag desc) self.now }
+        ensures most { unsigned_abs result ≤ greatest_lag desc }
+        ensures low { unsigned_abs result ≤ 2 ^ 123 }
+    {
+        let most = greatest_lag(desc);
+        self.amount().clamp(-most, most)
     }
 
     /// Returns what the next second makes up for, in `2^-32` ns: the lag, at most 500 us and two
