@@ -23,28 +23,15 @@ pub(super) enum Deed {
     ReadFast,
 }
 
-/// Lets the two callers of a keeper with this counter do their actions.
+/// Lets the two callers of a keeper with this counter do their actions, and closes the keeper: a
+/// function that drops a keeper costs more to prove than one that closes it.
 pub(super) fn does<R: Threads + Wait + Abort + Sync>(
     rt: &R,
     alloc: Global,
     ticker: Ticker,
     deed: Deed,
 ) {
-    let prepared = ready(rt, alloc, ticker, 2);
-    two_callers::<Brand, R>(rt, alloc, prepared, deed);
-}
-
-/// Owns the keeper and its callers, and only lends them. So no action drops a keeper where it ends.
-fn two_callers<L: Named + Send + Sync, R: Threads + Wait + Abort + Sync>(
-    rt: &R,
-    alloc: Global,
-    prepared: Prepared<Ticker>,
-    deed: Deed,
-)
-    requires named { IsNamed prepared L.page L.latch L.notice L.name L.parts L.callers }
-{
-    let (keeper, mut one, mut other) = open_two::<L, Ticker>(rt, alloc, prepared);
-    acts(rt, &keeper, &mut one, &mut other, deed);
+    closes(rt, alloc, ticker, deed);
 }
 
 fn acts<L: Named + Send + Sync, R: Threads + Wait + Abort + Sync>(
