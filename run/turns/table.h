@@ -1,0 +1,45 @@
+/* SPDX-License-Identifier: MIT OR Apache-2.0 */
+/*
+ * table.h - with --seed, which thread of all nodes has the turn. The file `turns` in the folder of a
+ * run is a struct turns.
+ *
+ * 1. A thread of a program needs the turn at each call that libtkrun-turns.so answers. If it hasn't
+ *    the turn then, it parks: it takes an entry and waits for its `state` to become PARKED_GRANTED.
+ * 2. The thread that has the turn runs until it waits for something, or until it has made
+ *    `calls_left` calls: then it parks, too. The call in which it parks is the first one.
+ * 3. When all threads wait, tkrun takes the turn from its holder, and grants it to one of those that
+ *    are PARKED_READY, by the seed. If none is, time moves.
+ * 4. A thread that waits for a lock is PARKED_BLOCKED. Whoever unlocks it makes it PARKED_READY.
+ */
+#ifndef TABLE_H
+#define TABLE_H
+
+#include <stdatomic.h>
+#include <stdint.h>
+
+enum { TURNS_LAYOUT = 0x746b5401, PARKED_MOST = 4096 };
+
+enum parked_state { PARKED_READY, PARKED_BLOCKED, PARKED_GRANTED };
+
+/* The key of the locks that processes share. */
+enum { KEY_SHARED = 1 };
+
+/* The entry of a thread that parks. It is the thread's while `thread` is its number: 0 says that it
+ * is free, and -1 that it is being filled. */
+struct parked {
+	_Atomic int32_t thread, process;
+	_Atomic uint32_t state;
+	_Atomic uint64_t key; /* of a lock: its address in the process, or KEY_SHARED */
+};
+
+struct turns {
+	uint32_t layout;
+	_Atomic uint32_t is_off; /* threads need no turn any more */
+	_Alignas(64) _Atomic int32_t holder; /* the thread that has the turn, or 0 */
+	_Atomic uint32_t calls_left; /* until it parks */
+	_Atomic uint32_t count;	     /* entries that were ever taken */
+	_Atomic uint32_t blocked;    /* at least how many threads wait for locks */
+	struct parked parked[PARKED_MOST];
+};
+
+#endif
