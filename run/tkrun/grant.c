@@ -17,16 +17,17 @@
 
 enum {
 	CALLS_BITS = 10, /* a turn has up to 2^CALLS_BITS calls */
-	RETRY_NANOS = 1000000000, /* from one try of the blocked threads to the next one */
+	RETRY_TIMES = 64, /* no thread is ready, from one try of the blocked ones to the next */
+	HOLD_SEC = 5,	  /* of processor time: a thread may spin until others go on */
 };
 
-/* A thread that has the turn for so long while others need it may spin until they go on. */
-static const uint64_t HOLD_NANOS = 5 * (uint64_t)NANOS;
+/* A holder's processor time is read after so long of the host's time, and again. */
+static const uint64_t WATCH_NANOS = NANOS;
 
 static struct turns *table;
 static uint64_t state;	 /* of the random numbers */
-static uint64_t granted; /* the host's ns of the latest grant */
-static uint64_t tried;	 /* the same, when blocked threads were tried */
+static uint64_t watched; /* the host's ns of the latest grant, or look at the holder */
+static uint64_t used;	 /* ticks of processor time at the first look after a grant, or NEVER */
 
 static uint64_t draw(void)
 {
@@ -177,7 +178,8 @@ static void let_go(struct run *run, int32_t thread, uint32_t in)
 			entries[count++] = &table->parked[i];
 	}
 	atomic_store(&table->holder, thread);
-	granted = host_nanos(CLOCK_MONOTONIC);
+	watched = host_nanos(CLOCK_MONOTONIC);
+	used = NEVER;
 	run->tree.running = thread;
 	for (size_t i = 0; i < count; i++)
 		atomic_store(&entries[i]->state, PARKED_GRANTED);
@@ -185,27 +187,25 @@ static void let_go(struct run *run, int32_t thread, uint32_t in)
 		host_futex_wake(&entries[i]->state);
 }
 
-/* Lets a blocked thread try its lock again, one after the other: who has unlocked it may have made
- * another call than those that tkrun knows. It changes nothing else. */
+/* Lets the blocked threads try their locks again now and then, one after the other: who has unlocked
+ * one may have made another call than those that tkrun knows. It changes nothing else, and depends on
+ * no time of the host. */
 static bool try_blocked(struct run *run, int32_t threads[PARKED_MOST])
 {
+	static uint32_t times;
 	static int32_t last;
 	size_t count, next = 0;
 
-	if (host_nanos(CLOCK_MONOTONIC) - tried < RETRY_NANOS)
+	if (!last && ++times % RETRY_TIMES)
 		return false;
 	count = list_parked(run, PARKED_BLOCKED, threads);
 	count = sort(threads, count);
 	while (next < count && threads[next] <= last)
 		next++;
-	if (next == count) {
-		last = 0;
-		tried = host_nanos(CLOCK_MONOTONIC);
-		return false;
-	}
-	last = threads[next];
-	let_go(run, last, PARKED_BLOCKED);
-	return true;
+	last = next < count ? threads[next] : 0;
+	if (last)
+		let_go(run, last, PARKED_BLOCKED);
+	return last;
 }
 
 /* The order of the threads is that of their numbers, and so the order in which they were made. */
@@ -246,7 +246,7 @@ static void name_holder(int32_t thread)
 	fprintf(stderr,
 		"tkrun: --seed: '%s' (thread %d) runs for %d s while others wait for their turn: "
 		"from now on, the order of threads is the host's\n",
-		name, thread, (int)(HOLD_NANOS / NANOS));
+		name, thread, HOLD_SEC);
 }
 
 /* Returns whether a thread needs the turn. */
@@ -263,16 +263,32 @@ static bool is_needed(void)
 	return false;
 }
 
+/* Returns the processor time of all threads, in ticks. */
+static uint64_t ticks_used(struct run *run)
+{
+	uint64_t sum = 0;
+
+	if (!tree_scan(&run->tree))
+		return 0;
+	for (size_t i = 0; i < run->tree.process_count; i++)
+		sum += proc_ticks(run->tree.processes[i].process);
+	return sum;
+}
+
+/* A thread that can't run, or waits for a disk, uses no processor time, so it keeps its turn on a busy
+ * machine, and while tkrun is stopped. */
 void turns_watch(struct run *run)
 {
-	uint64_t now = host_nanos(CLOCK_MONOTONIC);
+	uint64_t now = host_nanos(CLOCK_MONOTONIC), ticks;
 	int32_t holder;
 
-	if (!turns_are_on())
+	if (!turns_are_on() || now - watched < WATCH_NANOS)
 		return;
-	if (!granted || !is_needed())
-		granted = now;
-	if (now - granted < HOLD_NANOS)
+	watched = now;
+	ticks = is_needed() ? ticks_used(run) : NEVER;
+	if (ticks == NEVER || used == NEVER || ticks < used)
+		used = ticks;
+	if (ticks - used < HOLD_SEC * (uint64_t)sysconf(_SC_CLK_TCK))
 		return;
 	holder = atomic_load(&table->holder);
 	name_holder(holder ? holder : run->tree.running);

@@ -24,16 +24,28 @@ static uint64_t key_of_mutex(const pthread_mutex_t *mutex)
 	return key_of(mutex, mutex->__data.__kind & KIND_SHARED);
 }
 
-/* Tries to lock by a call that returns an error number, and else blocks. If turns end meanwhile, waits
- * by another call. */
-#define LOCK(key, try, wait)                                            \
-	({                                                              \
-		int error;                                              \
-		turn_need(CALLER);                                      \
-		while ((error = (try)) == EBUSY && turn_is_for(CALLER)) \
-			turn_block(key, false);                         \
-		error == EBUSY ? (wait) : error;                        \
+/* Tries to lock by a call that returns an error number, and else blocks, until a time if there is a
+ * limit. If turns end meanwhile, waits by another call. */
+#define LOCK(key, limit, try, wait)                                         \
+	({                                                                  \
+		enum block_end end = BLOCK_UNLOCKED;                        \
+		int error;                                                  \
+		turn_have(CALLER);                                          \
+		turn_need(CALLER);                                          \
+		while ((error = (try)) == EBUSY && turn_is_for(CALLER) &&   \
+		       end != BLOCK_LATE)                                   \
+			end = turn_block(key, false, limit);                \
+		error != EBUSY	    ? error :                               \
+		end == BLOCK_LATE ? ETIMEDOUT :                             \
+				    (wait);                                 \
 	})
+
+/* Returns whether a call with a time is answered here. The C library refuses the others. */
+static bool is_timed(const void *caller, clockid_t clock, const struct timespec *time)
+{
+	return turn_is_for(caller) && time->tv_nsec >= 0 && time->tv_nsec < 1000000000 &&
+	       (clock == CLOCK_REALTIME || clock == CLOCK_MONOTONIC);
+}
 
 /* Returns whether a mutex that checks errors is the thread's own. */
 static bool is_relocked(const pthread_mutex_t *mutex)
@@ -46,7 +58,7 @@ EXPORT int pthread_mutex_lock(pthread_mutex_t *mutex)
 {
 	if (!turn_is_for(CALLER) || is_relocked(mutex))
 		return REAL(pthread_mutex_lock)(mutex);
-	return LOCK(key_of_mutex(mutex), REAL(pthread_mutex_trylock)(mutex),
+	return LOCK(key_of_mutex(mutex), NULL, REAL(pthread_mutex_trylock)(mutex),
 		    REAL(pthread_mutex_lock)(mutex));
 }
 
@@ -74,7 +86,7 @@ EXPORT int pthread_rwlock_rdlock(pthread_rwlock_t *lock)
 {
 	if (!turn_is_for(CALLER) || is_written_by_own(lock))
 		return REAL(pthread_rwlock_rdlock)(lock);
-	return LOCK(key_of_rwlock(lock), REAL(pthread_rwlock_tryrdlock)(lock),
+	return LOCK(key_of_rwlock(lock), NULL, REAL(pthread_rwlock_tryrdlock)(lock),
 		    REAL(pthread_rwlock_rdlock)(lock));
 }
 
@@ -82,7 +94,7 @@ EXPORT int pthread_rwlock_wrlock(pthread_rwlock_t *lock)
 {
 	if (!turn_is_for(CALLER) || is_written_by_own(lock))
 		return REAL(pthread_rwlock_wrlock)(lock);
-	return LOCK(key_of_rwlock(lock), REAL(pthread_rwlock_trywrlock)(lock),
+	return LOCK(key_of_rwlock(lock), NULL, REAL(pthread_rwlock_trywrlock)(lock),
 		    REAL(pthread_rwlock_wrlock)(lock));
 }
 
@@ -106,33 +118,66 @@ static uint64_t key_of_semaphore(const sem_t *semaphore)
 	return key_of(semaphore, ((const struct semaphore *)semaphore)->is_shared);
 }
 
+/* Returns 0 or an error number. */
+static int wait_semaphore(sem_t *semaphore, const struct limit *limit, const void *caller)
+{
+	enum block_end end = BLOCK_UNLOCKED;
+
+	pthread_testcancel();
+	turn_have(caller);
+	turn_need(caller);
+	while (REAL(sem_trywait)(semaphore)) {
+		if (errno != EAGAIN || !turn_is_on() || end)
+			return end == BLOCK_LATE ? ETIMEDOUT : end ? EINTR : errno;
+		end = turn_block(key_of_semaphore(semaphore), true, limit);
+		if (end == BLOCK_INTERRUPTED)
+			return EINTR;
+	}
+	return 0;
+}
+
+/* Ends a wait for a semaphore. If turns have ended meanwhile, it goes on by another call. */
+#define END_WAIT(error, wait)                                   \
+	({                                                      \
+		int before = errno, result = (error);           \
+		errno = result && result != EAGAIN ? result : before; \
+		result == EAGAIN ? (wait) : result ? -1 : 0;    \
+	})
+
 EXPORT int sem_wait(sem_t *semaphore)
 {
-	int error = errno;
-
 	if (!turn_is_for(CALLER))
 		return REAL(sem_wait)(semaphore);
-	pthread_testcancel();
-	turn_need(CALLER);
-	while (REAL(sem_trywait)(semaphore)) {
-		if (errno != EAGAIN)
-			return -1;
-		if (!turn_is_on())
-			return REAL(sem_wait)(semaphore);
-		if (turn_block(key_of_semaphore(semaphore), true)) {
-			errno = EINTR;
-			return -1;
-		}
-	}
-	errno = error;
-	return 0;
+	return END_WAIT(wait_semaphore(semaphore, NULL, CALLER), REAL(sem_wait)(semaphore));
+}
+
+EXPORT int sem_clockwait(sem_t *semaphore, clockid_t clock, const struct timespec *time)
+{
+	struct limit limit = { clock, time };
+
+	if (!is_timed(CALLER, clock, time))
+		return REAL(sem_clockwait)(semaphore, clock, time);
+	return END_WAIT(wait_semaphore(semaphore, &limit, CALLER),
+			REAL(sem_clockwait)(semaphore, clock, time));
+}
+
+EXPORT int sem_timedwait(sem_t *semaphore, const struct timespec *time)
+{
+	struct limit limit = { CLOCK_REALTIME, time };
+
+	if (!is_timed(CALLER, CLOCK_REALTIME, time))
+		return REAL(sem_timedwait)(semaphore, time);
+	return END_WAIT(wait_semaphore(semaphore, &limit, CALLER),
+			REAL(sem_timedwait)(semaphore, time));
 }
 
 EXPORT int sem_post(sem_t *semaphore)
 {
 	uint64_t key = key_of_semaphore(semaphore);
-	int result = REAL(sem_post)(semaphore);
+	int result;
 
+	turn_have(CALLER);
+	result = REAL(sem_post)(semaphore);
 	turn_unblock(key);
 	return result;
 }
@@ -153,21 +198,41 @@ EXPORT int mtx_unlock(mtx_t *mutex)
 	return pthread_mutex_unlock((pthread_mutex_t *)mutex) ? thrd_error : thrd_success;
 }
 
-AFTER(int, pthread_mutex_timedlock, (pthread_mutex_t * mutex, const struct timespec *time),
-      (mutex, time))
-AFTER(int, pthread_mutex_clocklock,
-      (pthread_mutex_t * mutex, clockid_t clock, const struct timespec *time),
-      (mutex, clock, time))
-AFTER(int, pthread_rwlock_timedrdlock, (pthread_rwlock_t * lock, const struct timespec *time),
-      (lock, time))
-AFTER(int, pthread_rwlock_timedwrlock, (pthread_rwlock_t * lock, const struct timespec *time),
-      (lock, time))
-AFTER(int, pthread_rwlock_clockrdlock,
-      (pthread_rwlock_t * lock, clockid_t clock, const struct timespec *time), (lock, clock, time))
-AFTER(int, pthread_rwlock_clockwrlock,
-      (pthread_rwlock_t * lock, clockid_t clock, const struct timespec *time), (lock, clock, time))
-AFTER(int, sem_timedwait, (sem_t * semaphore, const struct timespec *time), (semaphore, time))
-AFTER(int, sem_clockwait, (sem_t * semaphore, clockid_t clock, const struct timespec *time),
-      (semaphore, clock, time))
-AFTER(int, mtx_timedlock, (mtx_t * mutex, const struct timespec *time), (mutex, time))
+/* Defines a call that waits for a lock until a time of a clock. */
+#define TIMED(name, parameters, lock, is_own, key, clock, arguments, try)              \
+	EXPORT int name parameters                                                      \
+	{                                                                               \
+		struct limit limit = { clock, time };                                   \
+                                                                                        \
+		if (!is_timed(CALLER, clock, time) || is_own(lock))                     \
+			return REAL(name) arguments;                                    \
+		return LOCK(key(lock), &limit, REAL(try)(lock), REAL(name) arguments);  \
+	}
+
+TIMED(pthread_mutex_timedlock, (pthread_mutex_t * mutex, const struct timespec *time), mutex,
+      is_relocked, key_of_mutex, CLOCK_REALTIME, (mutex, time), pthread_mutex_trylock)
+TIMED(pthread_mutex_clocklock,
+      (pthread_mutex_t * mutex, clockid_t clock, const struct timespec *time), mutex, is_relocked,
+      key_of_mutex, clock, (mutex, clock, time), pthread_mutex_trylock)
+TIMED(pthread_rwlock_timedrdlock, (pthread_rwlock_t * lock, const struct timespec *time), lock,
+      is_written_by_own, key_of_rwlock, CLOCK_REALTIME, (lock, time), pthread_rwlock_tryrdlock)
+TIMED(pthread_rwlock_timedwrlock, (pthread_rwlock_t * lock, const struct timespec *time), lock,
+      is_written_by_own, key_of_rwlock, CLOCK_REALTIME, (lock, time), pthread_rwlock_trywrlock)
+TIMED(pthread_rwlock_clockrdlock,
+      (pthread_rwlock_t * lock, clockid_t clock, const struct timespec *time), lock,
+      is_written_by_own, key_of_rwlock, clock, (lock, clock, time), pthread_rwlock_tryrdlock)
+TIMED(pthread_rwlock_clockwrlock,
+      (pthread_rwlock_t * lock, clockid_t clock, const struct timespec *time), lock,
+      is_written_by_own, key_of_rwlock, clock, (lock, clock, time), pthread_rwlock_trywrlock)
+
+EXPORT int mtx_timedlock(mtx_t *mutex, const struct timespec *time)
+{
+	int error;
+
+	if (!turn_is_for(CALLER))
+		return REAL(mtx_timedlock)(mutex, time);
+	error = pthread_mutex_timedlock((pthread_mutex_t *)mutex, time);
+	return !error ? thrd_success : error == ETIMEDOUT ? thrd_timedout : thrd_error;
+}
+
 AFTER(int, pthread_barrier_wait, (pthread_barrier_t * barrier), (barrier))

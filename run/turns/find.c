@@ -112,6 +112,7 @@ __attribute__((constructor)) static void start(void)
 	clock_getres(CLOCK_MONOTONIC, NULL);
 	pthread_atfork(NULL, NULL, turn_begin);
 	turns_table = map_table();
+	turn_forget();
 	turn_need(NULL);
 	errno = error;
 }

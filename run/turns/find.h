@@ -8,6 +8,9 @@
 /* NULL if there is none, or it isn't looked up yet. */
 extern struct turns *turns_table;
 
+/* Frees the entries of the program that this process ran before. */
+void turn_forget(void);
+
 /* Begins a process that was forked: its thread has another number, and needs the turn. */
 void turn_begin(void);
 

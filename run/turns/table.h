@@ -10,6 +10,8 @@
  * 3. When all threads wait, tkrun takes the turn from its holder, and grants it to one of those that
  *    are PARKED_READY, by the seed. If none is, time moves.
  * 4. A thread that waits for a lock is PARKED_BLOCKED. Whoever unlocks it makes it PARKED_READY.
+ * 5. A thread that waits for a condition variable has an entry that is PARKED_WAITING. A signal makes
+ *    the first of these entries, by their order, PARKED_SIGNALLED. Then the thread needs the turn.
  */
 #ifndef TABLE_H
 #define TABLE_H
@@ -17,11 +19,18 @@
 #include <stdatomic.h>
 #include <stdint.h>
 
-enum { TURNS_LAYOUT = 0x746b5401, PARKED_MOST = 4096 };
+enum { TURNS_LAYOUT = 0x746b5402, PARKED_MOST = 4096 };
 
-enum parked_state { PARKED_READY, PARKED_BLOCKED, PARKED_GRANTED };
+enum parked_state {
+	PARKED_READY,
+	PARKED_BLOCKED,
+	PARKED_GRANTED,
+	PARKED_WAITING,
+	PARKED_SIGNALLED,
+};
 
-/* The key of the locks that processes share. */
+/* Keys of what processes share are odd: that of all locks, or of a condition variable. The others are
+ * addresses in the process. */
 enum { KEY_SHARED = 1 };
 
 /* The entry of a thread that parks. It is the thread's while `thread` is its number: 0 says that it
@@ -29,7 +38,8 @@ enum { KEY_SHARED = 1 };
 struct parked {
 	_Atomic int32_t thread, process;
 	_Atomic uint32_t state;
-	_Atomic uint64_t key; /* of a lock: its address in the process, or KEY_SHARED */
+	_Atomic uint64_t key;	/* of a lock or a condition variable */
+	_Atomic uint64_t order; /* of the waits for condition variables */
 };
 
 struct turns {
@@ -39,6 +49,8 @@ struct turns {
 	_Atomic uint32_t calls_left; /* until it parks */
 	_Atomic uint32_t count;	     /* entries that were ever taken */
 	_Atomic uint32_t blocked;    /* at least how many threads wait for locks */
+	_Atomic uint32_t shared;     /* condition variables of several processes that have a key */
+	_Atomic uint64_t waits;	     /* for condition variables */
 	struct parked parked[PARKED_MOST];
 };
 

@@ -12,6 +12,7 @@
 #include <errno.h>
 #include <stdbool.h>
 #include <stddef.h>
+#include <time.h>
 
 #define EXPORT __attribute__((visibility("default")))
 
@@ -31,8 +32,10 @@
 #define AFTER(type, name, parameters, arguments)       \
 	EXPORT type name parameters                    \
 	{                                              \
-		type result = REAL(name) arguments;    \
+		type result;                           \
                                                        \
+		turn_have(CALLER);                     \
+		result = REAL(name) arguments;         \
 		turn_need(CALLER);                     \
 		return result;                         \
 	}
@@ -52,12 +55,41 @@ bool turn_is_found(const void *caller);
 bool turn_need(const void *caller);
 void turn_pass(const void *caller);
 
-/* Waits until a lock was unlocked, and for the turn. Returns whether a handler has run meanwhile. In
- * the wait, the thread is cancelled if `is_cancelled`. */
-bool turn_block(uint64_t key, bool is_cancelled);
+/* The same before a call: it isn't counted, and most threads have the turn. A handler may not, and a
+ * thread that has waited by a call that isn't covered. */
+void turn_have(const void *caller);
+
+/* A time of a clock until which a thread waits. */
+struct limit {
+	clockid_t clock;
+	const struct timespec *time;
+};
+
+/* How a wait for a lock has ended. */
+enum block_end { BLOCK_UNLOCKED, BLOCK_INTERRUPTED, BLOCK_LATE };
+
+/* Waits until a lock was unlocked, or a handler has run, or a time has come if there is a limit, and
+ * then for the turn. In the wait, the thread is cancelled if `is_cancelled`. */
+enum block_end turn_block(uint64_t key, bool is_cancelled, const struct limit *limit);
 
 /* Lets the threads be ready that wait for a lock. */
 void turn_unblock(uint64_t key);
+
+/* Lists this thread as one that waits for a condition variable. Returns NULL if the list is full. */
+struct parked *turn_enter_wait(uint64_t key);
+
+/* Waits until the entry is signalled, or for a time. Returns whether the time has come. The thread may
+ * be cancelled here. */
+bool turn_wait(struct parked *entry, const struct limit *limit);
+
+/* Frees the entry. Returns whether it was signalled. */
+bool turn_leave_wait(struct parked *entry);
+
+/* Signals the thread that has waited longest, or all. */
+void turn_signal(uint64_t key, bool are_all);
+
+/* Returns another key for each condition variable that processes share. */
+uint32_t turn_next_shared(void);
 
 /* Returns the number of this thread. */
 int32_t turn_thread(void);
