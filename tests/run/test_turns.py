@@ -91,6 +91,15 @@ class Calls(RunTest):
                 self.assertEqual(self.run_on(*STILL, "--seed", 3, "--", program(name)),
                                  self.run_on(*STILL, "--", program(name)))
 
+    def test_who_gets_a_lock_that_many_want(self):
+        # with time-outs, between processes, and while the thread that unlocks takes it again
+        shown = {}
+        for seed in [1, 2] * 3:
+            text = self.run_on(*STILL, "--seed", seed, "--", program("turn_order"))
+            self.assertEqual([len(line.split()) for line in text.splitlines()],
+                             [60, 60, 60, 48, 48])
+            self.assertEqual(shown.setdefault(seed, text), text)
+        self.assertNotEqual(shown[1], shown[2])
 
     def test_what_a_thread_finds_at_its_turn(self):
         # it was woken by the first of several writes
