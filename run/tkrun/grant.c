@@ -3,9 +3,9 @@
 #define _GNU_SOURCE
 #include "grant.h"
 
-#include "processes/status.h"
+#include "eager.h"
+#include "hold.h"
 #include "seeds.h"
-#include "turns/table.h"
 
 #include <errno.h>
 #include <fcntl.h>
@@ -17,17 +17,13 @@
 
 enum {
 	CALLS_BITS = 10, /* a turn has up to 2^CALLS_BITS calls */
-	RETRY_TIMES = 64, /* no thread is ready, from one try of the blocked ones to the next */
-	HOLD_SEC = 5,	  /* of processor time: a thread may spin until others go on */
+	RETRY_TIMES = 64, /* moves of the counter, from one try of the blocked threads to the next */
 };
 
-/* A holder's processor time is read after so long of the host's time, and again. */
-static const uint64_t WATCH_NANOS = NANOS;
-
-static struct turns *table;
+static struct turns *table; /* NULL without --seed */
 static uint64_t state;	 /* of the random numbers */
-static uint64_t watched; /* the host's ns of the latest grant, or look at the holder */
-static uint64_t used;	 /* ticks of processor time at the first look after a grant, or NEVER */
+static uint64_t untried; /* moves since the blocked threads have tried */
+static uint64_t stuck;	 /* how often nothing could be done since the latest move or try */
 
 static uint64_t draw(void)
 {
@@ -100,8 +96,7 @@ bool turns_are_on(void)
 	return table && !atomic_load(&table->is_off);
 }
 
-/* Returns whether the thread of an entry is parked in a state. */
-static bool is_parked(const struct parked *entry, int32_t thread, uint32_t in)
+bool turns_is_parked(const struct parked *entry, int32_t thread, uint32_t in)
 {
 	return thread > 0 && atomic_load(&entry->thread) == thread &&
 	       atomic_load(&entry->state) == in;
@@ -112,7 +107,7 @@ bool turns_has_ready(int32_t thread)
 	uint32_t count = table ? atomic_load(&table->count) : 0;
 
 	for (uint32_t i = 0; i < count; i++) {
-		if (is_parked(&table->parked[i], thread, PARKED_READY))
+		if (turns_is_parked(&table->parked[i], thread, PARKED_READY))
 			return true;
 	}
 	return false;
@@ -138,7 +133,7 @@ static size_t list_parked(const struct run *run, uint32_t in, int32_t threads[PA
 		struct parked *entry = &table->parked[i];
 		int32_t thread = atomic_load(&entry->thread);
 
-		if (thread > 0 && !free_left(run, entry, thread) && is_parked(entry, thread, in))
+		if (thread > 0 && !free_left(run, entry, thread) && turns_is_parked(entry, thread, in))
 			threads[count++] = thread;
 	}
 	return count;
@@ -174,12 +169,11 @@ static void let_go(struct run *run, int32_t thread, uint32_t in)
 	size_t count = 0;
 
 	for (uint32_t i = 0; i < all; i++) {
-		if (is_parked(&table->parked[i], thread, in))
+		if (turns_is_parked(&table->parked[i], thread, in))
 			entries[count++] = &table->parked[i];
 	}
 	atomic_store(&table->holder, thread);
-	watched = host_nanos(CLOCK_MONOTONIC);
-	used = NEVER;
+	hold_begins();
 	run->tree.running = thread;
 	for (size_t i = 0; i < count; i++)
 		atomic_store(&entries[i]->state, PARKED_GRANTED);
@@ -187,16 +181,30 @@ static void let_go(struct run *run, int32_t thread, uint32_t in)
 		host_futex_wake(&entries[i]->state);
 }
 
+void turns_note_move(bool has_moved)
+{
+	untried += has_moved;
+	stuck = has_moved ? 0 : stuck + 1;
+}
+
+/* How often nothing could be done depends on the host, so it decides only if time doesn't move. */
+static bool is_try_due(void)
+{
+	if (untried < RETRY_TIMES && stuck < RETRY_TIMES)
+		return false;
+	untried = stuck < RETRY_TIMES ? 0 : untried;
+	stuck = 0;
+	return true;
+}
+
 /* Lets the blocked threads try their locks again now and then, one after the other: who has unlocked
- * one may have made another call than those that tkrun knows. It changes nothing else, and depends on
- * no time of the host. */
+ * one may have made another call than those that tkrun knows. It changes nothing else. */
 static bool try_blocked(struct run *run, int32_t threads[PARKED_MOST])
 {
-	static uint32_t times;
 	static int32_t last;
 	size_t count, next = 0;
 
-	if (!last && ++times % RETRY_TIMES)
+	if (!last && !is_try_due())
 		return false;
 	count = list_parked(run, PARKED_BLOCKED, threads);
 	count = sort(threads, count);
@@ -222,75 +230,13 @@ bool turns_grant(struct run *run)
 		return try_blocked(run, threads);
 	count = sort(threads, count);
 	atomic_store(&table->calls_left, draw_calls());
+	atomic_store(&table->is_each, eager_are_there(&run->tree));
 	let_go(run, threads[draw() % count], PARKED_READY);
 	return true;
 }
 
-/* Lets all threads go on. They need no turn any more. */
-static void end_turns(void)
-{
-	uint32_t count = atomic_load(&table->count);
-
-	atomic_store(&table->is_off, 1);
-	for (uint32_t i = 0; i < count; i++)
-		host_futex_wake(&table->parked[i].state);
-}
-
-static void name_holder(int32_t thread)
-{
-	char path[64], name[64] = "";
-
-	snprintf(path, sizeof(path), "/proc/%d/comm", thread);
-	proc_read(path, name, sizeof(name));
-	name[strcspn(name, "\n")] = 0;
-	fprintf(stderr,
-		"tkrun: --seed: '%s' (thread %d) runs for %d s while others wait for their turn: "
-		"from now on, the order of threads is the host's\n",
-		name, thread, HOLD_SEC);
-}
-
-/* Returns whether a thread needs the turn. */
-static bool is_needed(void)
-{
-	uint32_t count = atomic_load(&table->count);
-
-	for (uint32_t i = 0; i < count; i++) {
-		const struct parked *entry = &table->parked[i];
-
-		if (is_parked(entry, atomic_load(&entry->thread), PARKED_READY))
-			return true;
-	}
-	return false;
-}
-
-/* Returns the processor time of all threads, in ticks. */
-static uint64_t ticks_used(struct run *run)
-{
-	uint64_t sum = 0;
-
-	if (!tree_scan(&run->tree))
-		return 0;
-	for (size_t i = 0; i < run->tree.process_count; i++)
-		sum += proc_ticks(run->tree.processes[i].process);
-	return sum;
-}
-
-/* A thread that can't run, or waits for a disk, uses no processor time, so it keeps its turn on a busy
- * machine, and while tkrun is stopped. */
 void turns_watch(struct run *run)
 {
-	uint64_t now = host_nanos(CLOCK_MONOTONIC), ticks;
-	int32_t holder;
-
-	if (!turns_are_on() || now - watched < WATCH_NANOS)
-		return;
-	watched = now;
-	ticks = is_needed() ? ticks_used(run) : NEVER;
-	if (ticks == NEVER || used == NEVER || ticks < used)
-		used = ticks;
-	if (ticks - used < HOLD_SEC * (uint64_t)sysconf(_SC_CLK_TCK))
-		return;
-	holder = atomic_load(&table->holder);
-	name_holder(holder ? holder : run->tree.running);
-	end_turns();
+	if (turns_are_on())
+		hold_watch(run, table);
 }

@@ -279,6 +279,7 @@ bool move_counter(struct run *run)
 	if (follow_reads(run))
 		return true;
 	common = pass_steps(run);
+	turns_note_move(common != NEVER);
 	if (common == NEVER)
 		return false;
 	move_and_wake(run, common);

@@ -8,9 +8,9 @@
 #include <pthread.h>
 #include <sched.h>
 #include <signal.h>
+#include <spawn.h>
 #include <stdio.h>
 #include <stdlib.h>
-#include <sys/file.h>
 #include <sys/msg.h>
 #include <sys/sem.h>
 #include <sys/time.h>
@@ -143,8 +143,26 @@ AFTER(int, sigtimedwait,
       (const sigset_t *restrict set, siginfo_t *restrict info,
        const struct timespec *restrict span),
       (set, info, span))
-AFTER(int, kill, (pid_t process, int number), (process, number))
-AFTER(int, pthread_kill, (pthread_t thread, int number), (thread, number))
+/* A process that is killed has ended, and a handler has run until its first call. */
+PASS(int, kill, (pid_t process, int number), (process, number))
+PASS(int, killpg, (pid_t group, int number), (group, number))
+PASS(int, tgkill, (pid_t process, pid_t thread, int number), (process, thread, number))
+PASS(int, sigqueue, (pid_t process, int number, const union sigval value), (process, number, value))
+PASS(int, pthread_kill, (pthread_t thread, int number), (thread, number))
+PASS(int, pthread_sigqueue, (pthread_t thread, int number, const union sigval value),
+     (thread, number, value))
+PASS(int, pthread_cancel, (pthread_t thread), (thread))
+
+/* The child has executed its program, and so has closed the files that this one doesn't inherit. */
+PASS(int, posix_spawn,
+     (pid_t * child, const char *path, const posix_spawn_file_actions_t *actions,
+      const posix_spawnattr_t *attributes, char *const words[], char *const environment[]),
+     (child, path, actions, attributes, words, environment))
+PASS(int, posix_spawnp,
+     (pid_t * child, const char *name, const posix_spawn_file_actions_t *actions,
+      const posix_spawnattr_t *attributes, char *const words[], char *const environment[]),
+     (child, name, actions, attributes, words, environment))
+PASS(FILE *, popen, (const char *command, const char *type), (command, type))
 
 AFTER(int, timer_create, (clockid_t clock, struct sigevent *event, timer_t *timer),
       (clock, event, timer))
@@ -160,8 +178,6 @@ AFTER(int, setitimer,
       (which, time, before))
 AFTER(unsigned int, alarm, (unsigned int seconds), (seconds))
 
-AFTER(int, flock, (int file, int operation), (file, operation))
-AFTER(int, lockf, (int file, int command, off_t length), (file, command, length))
 AFTER(int, mq_send, (mqd_t queue, const char *bytes, size_t size, unsigned int priority),
       (queue, bytes, size, priority))
 AFTER(ssize_t, mq_receive,

@@ -8,6 +8,7 @@
 
 #include <stdarg.h>
 #include <stdio.h>
+#include <sys/syscall.h>
 #include <sys/time.h>
 #include <time.h>
 #include <unistd.h>
@@ -25,6 +26,20 @@ AFTER(ssize_t, getdelim,
       (char **restrict text, size_t *restrict size, int end, FILE *restrict file),
       (text, size, end, file))
 
+/* Returns whether a system call sends a signal. */
+static bool is_signal(long number)
+{
+	static const int SIGNALS[] = { SYS_kill,	     SYS_tkill,
+				       SYS_tgkill,	     SYS_rt_sigqueueinfo,
+				       SYS_rt_tgsigqueueinfo, SYS_pidfd_send_signal };
+
+	for (size_t i = 0; i < sizeof(SIGNALS) / sizeof(*SIGNALS); i++) {
+		if (number == SIGNALS[i])
+			return true;
+	}
+	return false;
+}
+
 /* A system call has up to six arguments. Those that aren't there may have any value. */
 EXPORT long syscall(long number, ...)
 {
@@ -36,6 +51,6 @@ EXPORT long syscall(long number, ...)
 		a[i] = va_arg(list, long);
 	va_end(list);
 	result = REAL(syscall)(number, a[0], a[1], a[2], a[3], a[4], a[5]);
-	turn_need(CALLER);
+	(is_signal(number) ? turn_pass(CALLER) : (void)turn_need(CALLER));
 	return result;
 }

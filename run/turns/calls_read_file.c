@@ -80,12 +80,18 @@ static ssize_t read_more(int file, void *bytes, size_t size)
 	return more > 0 ? more : 0;
 }
 
-/* Returns how many bytes a call has read when it has the turn. */
+/* Returns how many bytes a call has read when it has the turn. A thread that waits to write more has
+ * gone on by then. */
 static ssize_t end_read(int file, void *bytes, size_t most, ssize_t size, const void *caller)
 {
-	if (turn_need(caller) && size > 0)
-		size += read_more(file, (char *)bytes + size, most - (size_t)size);
-	return size;
+	ssize_t more;
+
+	if (!turn_need(caller) || size <= 0)
+		return size;
+	more = read_more(file, (char *)bytes + size, most - (size_t)size);
+	if (more && turn_is_each())
+		turn_pass(caller);
+	return size + more;
 }
 
 #define READ(name, parameters, arguments)              \

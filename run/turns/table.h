@@ -7,6 +7,8 @@
  *    the turn then, it parks: it takes an entry and waits for its `state` to become PARKED_GRANTED.
  * 2. The thread that has the turn runs until it waits for something, or until it has made
  *    `calls_left` calls: then it parks, too. The call in which it parks is the first one.
+ *    It parks in each call while a thread waits in the kernel in a call that goes on before that
+ *    thread has the turn (is_each), and after each signal that it sends.
  * 3. When all threads wait, tkrun takes the turn from its holder, and grants it to one of those that
  *    are PARKED_READY, by the seed. If none is, time moves.
  * 4. A thread that waits for a lock is PARKED_BLOCKED. Whoever unlocks it makes it PARKED_READY.
@@ -19,7 +21,7 @@
 #include <stdatomic.h>
 #include <stdint.h>
 
-enum { TURNS_LAYOUT = 0x746b5402, PARKED_MOST = 4096 };
+enum { TURNS_LAYOUT = 0x746b5403, PARKED_MOST = 4096 };
 
 enum parked_state {
 	PARKED_READY,
@@ -47,6 +49,7 @@ struct turns {
 	_Atomic uint32_t is_off; /* threads need no turn any more */
 	_Alignas(64) _Atomic int32_t holder; /* the thread that has the turn, or 0 */
 	_Atomic uint32_t calls_left; /* until it parks */
+	_Atomic uint32_t is_each;    /* it parks in each call */
 	_Atomic uint32_t count;	     /* entries that were ever taken */
 	_Atomic uint32_t blocked;    /* at least how many threads wait for locks */
 	_Atomic uint32_t shared;     /* condition variables of several processes that have a key */

@@ -43,9 +43,23 @@
 /* Finds a function of the next library, or ends the process. */
 void *turn_real_call(const char *name);
 
-/* Return whether threads need the turn, and whether a caller does: it isn't a library of tkrun. The
- * last one also returns true after turns have ended. */
+/* Defines a call that lets other threads act at once, by signals or in the kernel. What they do before
+ * they park is done when it returns. */
+#define PASS(type, name, parameters, arguments)        \
+	EXPORT type name parameters                    \
+	{                                              \
+		type result;                           \
+                                                       \
+		turn_have(CALLER);                     \
+		result = REAL(name) arguments;         \
+		turn_pass(CALLER);                     \
+		return result;                         \
+	}
+
+/* Return whether threads need the turn, whether its holder parks in each call, and whether a caller
+ * needs it: it isn't a library of tkrun. The last one also returns true after turns have ended. */
 bool turn_is_on(void);
+bool turn_is_each(void);
 bool turn_is_for(const void *caller);
 bool turn_is_found(const void *caller);
 
