@@ -99,7 +99,7 @@ bool turns_are_on(void)
 bool turns_is_parked(const struct parked *entry, int32_t thread, uint32_t in)
 {
 	return thread > 0 && atomic_load(&entry->thread) == thread &&
-	       atomic_load(&entry->state) == in;
+	       parked_state(entry) == in;
 }
 
 bool turns_has_ready(int32_t thread)
@@ -117,7 +117,7 @@ bool turns_has_ready(int32_t thread)
  * granted the turn frees its entry before it waits. Returns whether it did. */
 static bool free_left(const struct run *run, struct parked *entry, int32_t thread)
 {
-	if (tree_find(&run->tree, thread) && atomic_load(&entry->state) != PARKED_GRANTED)
+	if (tree_find(&run->tree, thread) && parked_state(entry) != PARKED_GRANTED)
 		return false;
 	atomic_compare_exchange_strong(&entry->thread, &thread, 0);
 	return true;
@@ -176,9 +176,9 @@ static void let_go(struct run *run, int32_t thread, uint32_t in)
 	hold_begins();
 	run->tree.running = thread;
 	for (size_t i = 0; i < count; i++)
-		atomic_store(&entries[i]->state, PARKED_GRANTED);
+		parked_change(entries[i], in, PARKED_GRANTED);
 	for (size_t i = 0; i < count; i++)
-		host_futex_wake(&entries[i]->state);
+		host_futex_wake(&entries[i]->word);
 }
 
 void turns_note_move(bool has_moved)

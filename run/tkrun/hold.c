@@ -31,7 +31,7 @@ static void end_turns(struct turns *table)
 
 	atomic_store(&table->is_off, 1);
 	for (uint32_t i = 0; i < count; i++)
-		host_futex_wake(&table->parked[i].state);
+		host_futex_wake(&table->parked[i].word);
 }
 
 static void name_holder(int32_t thread)

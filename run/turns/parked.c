@@ -42,13 +42,15 @@ struct parked *parked_enter(int32_t thread, uint32_t state, uint64_t key)
 	for (uint32_t i = 0; i < PARKED_MOST; i++) {
 		struct parked *entry = &turns_table->parked[i];
 		uint32_t count = atomic_load(&turns_table->count);
+		uint32_t again;
 		int32_t nobody = 0;
 
 		if (!atomic_compare_exchange_strong(&entry->thread, &nobody, -1))
 			continue;
 		atomic_store(&entry->process, turn_process());
 		atomic_store(&entry->key, key);
-		atomic_store(&entry->state, state);
+		again = (atomic_load(&entry->word) | STATE_MASK) + 1;
+		atomic_store(&entry->word, again | state);
 		while (count <= i &&
 		       !atomic_compare_exchange_weak(&turns_table->count, &count, i + 1))
 			;
@@ -58,31 +60,31 @@ struct parked *parked_enter(int32_t thread, uint32_t state, uint64_t key)
 	return NULL;
 }
 
-long parked_wait(struct parked *entry, uint32_t state, const struct limit *limit)
+long parked_wait(struct parked *entry, uint32_t word, const struct limit *limit)
 {
 	int operation = FUTEX_WAIT_BITSET, error = errno;
 	long result;
 
 	if (!limit)
-		return host_call(SYS_futex, (long)&entry->state, FUTEX_WAIT, state, 0, 0, 0);
+		return host_call(SYS_futex, (long)&entry->word, FUTEX_WAIT, word, 0, 0, 0);
 	if (limit->time->tv_sec < 0)
 		return -ETIMEDOUT;
 	if (limit->clock == CLOCK_REALTIME)
 		operation |= FUTEX_CLOCK_REALTIME;
-	result = REAL(syscall)(SYS_futex, &entry->state, operation, state, limit->time, NULL,
+	result = REAL(syscall)(SYS_futex, &entry->word, operation, word, limit->time, NULL,
 			       FUTEX_BITSET_MATCH_ANY);
 	result = result < 0 ? -errno : result;
 	errno = error;
 	return result;
 }
 
-long parked_wait_cancelled(struct parked *entry, uint32_t state, const struct limit *limit)
+long parked_wait_cancelled(struct parked *entry, uint32_t word, const struct limit *limit)
 {
 	long result;
 	int type;
 
 	pthread_setcanceltype(PTHREAD_CANCEL_ASYNCHRONOUS, &type);
-	result = parked_wait(entry, state, limit);
+	result = parked_wait(entry, word, limit);
 	pthread_setcanceltype(type, NULL);
 	return result;
 }

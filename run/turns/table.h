@@ -4,7 +4,7 @@
  * run is a struct turns.
  *
  * 1. A thread of a program needs the turn at each call that libtkrun-turns.so answers. If it hasn't
- *    the turn then, it parks: it takes an entry and waits for its `state` to become PARKED_GRANTED.
+ *    the turn then, it parks: it takes an entry and waits for its state to become PARKED_GRANTED.
  * 2. The thread that has the turn runs until it waits for something, or until it has made
  *    `calls_left` calls: then it parks, too. The call in which it parks is the first one.
  *    It parks in each call while a thread waits in the kernel in a call that goes on before that
@@ -19,9 +19,10 @@
 #define TABLE_H
 
 #include <stdatomic.h>
+#include <stdbool.h>
 #include <stdint.h>
 
-enum { TURNS_LAYOUT = 0x746b5403, PARKED_MOST = 4096 };
+enum { TURNS_LAYOUT = 0x746b5404, PARKED_MOST = 4096 };
 
 enum parked_state {
 	PARKED_READY,
@@ -31,6 +32,10 @@ enum parked_state {
 	PARKED_SIGNALLED,
 };
 
+/* A state is in the low bits of a word, and in the others how often the entry was taken: a thread that
+ * has lost its entry in a handler must not wait in it for the turn of another one. */
+enum { STATE_BITS = 3, STATE_MASK = (1 << STATE_BITS) - 1 };
+
 /* Keys of what processes share are odd: that of all locks, or of a condition variable. The others are
  * addresses in the process. */
 enum { KEY_SHARED = 1 };
@@ -39,10 +44,27 @@ enum { KEY_SHARED = 1 };
  * is free, and -1 that it is being filled. */
 struct parked {
 	_Atomic int32_t thread, process;
-	_Atomic uint32_t state;
+	_Atomic uint32_t word; /* state, and how often it was taken */
 	_Atomic uint64_t key;	/* of a lock or a condition variable */
 	_Atomic uint64_t order; /* of the waits for condition variables */
 };
+
+static inline uint32_t parked_state(const struct parked *entry)
+{
+	return atomic_load(&entry->word) & STATE_MASK;
+}
+
+/* Changes the state from one to another. Returns whether it was that one. */
+static inline bool parked_change(struct parked *entry, uint32_t from, uint32_t to)
+{
+	uint32_t word = atomic_load(&entry->word);
+
+	while ((word & STATE_MASK) == from) {
+		if (atomic_compare_exchange_weak(&entry->word, &word, word - from + to))
+			return true;
+	}
+	return false;
+}
 
 struct turns {
 	uint32_t layout;

@@ -12,24 +12,32 @@ bool turn_is_on(void)
 	return turns_table && !atomic_load_explicit(&turns_table->is_off, memory_order_relaxed);
 }
 
+/* Returns the word of an entry of this thread while it is ready. */
+static uint32_t ready_word(const struct parked *entry)
+{
+	return (atomic_load(&entry->word) & ~(uint32_t)STATE_MASK) | PARKED_READY;
+}
+
 /* Waits for the turn. If a handler has parked meanwhile, it has got the turn for this wait, too, and
  * the entry is free or another thread's. */
 static void park(void)
 {
 	int32_t thread = turn_thread();
 	struct parked *entry = parked_enter(thread, PARKED_READY, 0);
-	uint32_t now;
+	uint32_t word = entry ? ready_word(entry) : 0, now;
 
 	while (entry && turn_is_on()) {
-		now = atomic_load(&entry->state);
-		if (atomic_load(&entry->thread) != thread)
+		now = atomic_load(&entry->word);
+		if (atomic_load(&entry->thread) != thread || (now ^ word) & ~STATE_MASK) {
 			entry = atomic_load(&turns_table->holder) == thread
 					? NULL
 					: parked_enter(thread, PARKED_READY, 0);
-		else if (now == PARKED_GRANTED)
+			word = entry ? ready_word(entry) : 0;
+		} else if (now != word) {
 			break;
-		else
-			parked_wait(entry, now, NULL);
+		} else {
+			parked_wait(entry, word, NULL);
+		}
 	}
 	if (entry)
 		parked_leave(entry);
@@ -98,12 +106,12 @@ static enum block_end wait_blocked(struct parked *entry, bool is_cancelled,
 				   const struct limit *limit)
 {
 	int32_t thread = turn_thread();
+	uint32_t word = ready_word(entry) - PARKED_READY + PARKED_BLOCKED;
 	long result = 0;
 
 	while (turn_is_on() && atomic_load(&entry->thread) == thread &&
-	       atomic_load(&entry->state) == PARKED_BLOCKED) {
-		result = (is_cancelled ? parked_wait_cancelled :
-					 parked_wait)(entry, PARKED_BLOCKED, limit);
+	       atomic_load(&entry->word) == word) {
+		result = (is_cancelled ? parked_wait_cancelled : parked_wait)(entry, word, limit);
 		if (result == -EINTR)
 			return BLOCK_INTERRUPTED;
 		if (result == -ETIMEDOUT)
@@ -140,9 +148,7 @@ void turn_unblock(uint64_t key)
 		struct parked *entry = &turns_table->parked[i];
 
 		if (parked_is_of(entry, key))
-			atomic_compare_exchange_strong(&entry->state,
-						       &(uint32_t){ PARKED_BLOCKED },
-						       PARKED_READY);
+			parked_change(entry, PARKED_BLOCKED, PARKED_READY);
 	}
 }
 

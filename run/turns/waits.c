@@ -10,7 +10,7 @@ struct parked *turn_enter_wait(uint64_t key)
 {
 	static _Thread_local struct parked *last;
 
-	if (last && atomic_load(&last->state) >= PARKED_WAITING)
+	if (last && parked_state(last) >= PARKED_WAITING)
 		parked_leave(last);
 	last = parked_enter(turn_thread(), PARKED_WAITING, key);
 	if (last)
@@ -20,16 +20,19 @@ struct parked *turn_enter_wait(uint64_t key)
 
 bool turn_wait(struct parked *entry, const struct limit *limit)
 {
+	uint32_t word = atomic_load(&entry->word);
 	long result = 0;
 
-	while (result != -ETIMEDOUT && atomic_load(&entry->state) == PARKED_WAITING)
-		result = parked_wait_cancelled(entry, PARKED_WAITING, limit);
+	while (result != -ETIMEDOUT && (word & STATE_MASK) == PARKED_WAITING) {
+		result = parked_wait_cancelled(entry, word, limit);
+		word = atomic_load(&entry->word);
+	}
 	return result == -ETIMEDOUT;
 }
 
 bool turn_leave_wait(struct parked *entry)
 {
-	bool is_signalled = atomic_exchange(&entry->state, PARKED_GRANTED) == PARKED_SIGNALLED;
+	bool is_signalled = !parked_change(entry, PARKED_WAITING, PARKED_GRANTED);
 
 	parked_leave(entry);
 	return is_signalled;
@@ -44,7 +47,7 @@ static struct parked *find_first(uint64_t key)
 	for (uint32_t i = 0; i < count; i++) {
 		struct parked *entry = &turns_table->parked[i];
 
-		if (parked_is_of(entry, key) && atomic_load(&entry->state) == PARKED_WAITING &&
+		if (parked_is_of(entry, key) && parked_state(entry) == PARKED_WAITING &&
 		    (!first || atomic_load(&entry->order) < atomic_load(&first->order)))
 			first = entry;
 	}
@@ -57,11 +60,8 @@ void turn_signal(uint64_t key, bool are_all)
 	bool is_done = false;
 
 	while (!is_done && (first = find_first(key))) {
-		is_done = atomic_compare_exchange_strong(&first->state,
-							 &(uint32_t){ PARKED_WAITING },
-							 PARKED_SIGNALLED) &&
-			  !are_all;
-		host_futex_wake(&first->state);
+		is_done = parked_change(first, PARKED_WAITING, PARKED_SIGNALLED) && !are_all;
+		host_futex_wake(&first->word);
 	}
 }
 
