@@ -80,18 +80,21 @@ static ssize_t read_more(int file, void *bytes, size_t size)
 	return more > 0 ? more : 0;
 }
 
-/* Returns how many bytes a call has read when it has the turn. A thread that waits to write more has
- * gone on by then. */
+/* Returns how many bytes a call has read when it has the turn. A thread that waits to write more goes
+ * on then, and what it writes is read, too: how much the call has found first depends on the host. */
 static ssize_t end_read(int file, void *bytes, size_t most, ssize_t size, const void *caller)
 {
-	ssize_t more;
+	bool goes_on = turn_need(caller) && size > 0;
+	ssize_t more = goes_on;
 
-	if (!turn_need(caller) || size <= 0)
-		return size;
-	more = read_more(file, (char *)bytes + size, most - (size_t)size);
-	if (more && turn_is_each())
-		turn_pass(caller);
-	return size + more;
+	while (more && goes_on) {
+		more = read_more(file, (char *)bytes + size, most - (size_t)size);
+		size += more;
+		goes_on = turn_is_each();
+		if (more && goes_on)
+			turn_pass(caller);
+	}
+	return size;
 }
 
 #define READ(name, parameters, arguments)              \

@@ -21,7 +21,7 @@
 #include <time.h>
 #include <unistd.h>
 
-enum { ROUNDS = 8, BYTES = 300000, PART = 10000, LONG_PART = 60000, MESSAGES = 20 };
+enum { ROUNDS = 8, BYTES = 300000, PART = 10000, MESSAGES = 20 };
 
 static int ends[2], queue;
 static const char *lock_name;
@@ -63,11 +63,13 @@ static void show_reads(int is_socket, int is_rest)
 {
 	pthread_t writer;
 	ssize_t size;
-	int rest;
+	int rest, least = 1;
 
 	check(!(is_socket ? socketpair(AF_UNIX, SOCK_STREAM, 0, ends) : pipe(ends)), "ends");
+	if (is_rest) /* a part doesn't fit */
+		check(!setsockopt(ends[1], SOL_SOCKET, SO_SNDBUF, &least, sizeof(least)), "SO_SNDBUF");
 	pthread_create(&writer, NULL, write_all, is_socket ? &writer : NULL);
-	while ((size = read(ends[0], bytes, is_rest ? LONG_PART : PART)) > 0) {
+	while ((size = read(ends[0], bytes, PART)) > 0) {
 		check(!ioctl(ends[0], FIONREAD, &rest), "FIONREAD");
 		printf("%zd ", is_rest ? rest : size);
 	}
