@@ -105,9 +105,18 @@ fn lines<'h>(
     rt: &(impl AllocGlobal + Threads + Sync),
     stamps: &[u8],
 ) -> Result<Vec<u8, &'h Heap<Global>>, Fault> {
-    let keeper = dated_keeper(rt.alloc())?;
+    lines_by(heap, rt, &dated_keeper(rt.alloc())?, stamps)
+}
+
+/// The lines of stamps by this journal, out of the heap.
+fn lines_by<'h>(
+    heap: &'h Heap<Global>,
+    rt: &(impl AllocGlobal + Threads + Sync),
+    keeper: &Timekeeper,
+    stamps: &[u8],
+) -> Result<Vec<u8, &'h Heap<Global>>, Fault> {
     let items = Stamps::from_bytes(rt.alloc(), stamps)?;
-    convert(heap, rt, &keeper, &items, ClockId::Monotonic)
+    convert(heap, rt, keeper, &items, ClockId::Monotonic)
 }
 
 /// The report of `DATED`, out of the heap.
