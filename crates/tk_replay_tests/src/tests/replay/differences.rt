@@ -1,8 +1,8 @@
 //! Tests reads that state the value that they expect.
 
-use super::assert_same;
 use super::many::{agreeing, assert_outcomes, owned};
-use tk_replay::{CheckedReport, NoGate, replay, replay_bounded, report};
+use super::{BOTH, assert_same, replayed, reported};
+use tk_replay::{CheckedReport, NoGate};
 
 /// Reads of a counter of one nanosecond a cycle. The records 3, 5, 7 and 8 expect another value than
 /// the clock has, or one where the read is refused.
@@ -21,21 +21,19 @@ at,boottime,0.000000000\ndiffers,8,18446744073709551615\nat,monotonic_raw,0.0000
 
 #[test]
 fn states_each_value_that_a_read_does_not_give(rt: HostRuntime) {
-    let text = report(rt.alloc(), SCRIPT).expect(&rt, "a report");
+    let text = reported(rt.alloc(), false, SCRIPT).expect(&rt, "a report");
     assert_same(&rt, &text.as_slice(), &REPORT);
 }
 
 #[test]
 fn counts_the_differences_of_a_replay(rt: HostRuntime) {
-    let mut text = Vec::new(rt.alloc());
-    let mut script = SCRIPT;
-    assert_same(&rt, &replay(rt.alloc(), &mut script, &mut text), &Ok(4));
-    assert_same(&rt, &text.as_slice(), &REPORT);
-    let mut text = Vec::new(rt.alloc());
-    let mut script = SCRIPT;
-    let outcome = replay_bounded(rt.alloc(), &mut script, &mut text, 1);
-    assert_same(&rt, &outcome, &Ok(4));
-    assert_same(&rt, &text.as_slice(), &REPORT);
+    for is_bounded in BOTH {
+        let mut text = Vec::new(rt.alloc());
+        let mut script = SCRIPT;
+        let outcome = replayed(rt.alloc(), is_bounded, &mut script, &mut text);
+        assert_same(&rt, &outcome, &Ok(4));
+        assert_same(&rt, &text.as_slice(), &REPORT);
+    }
 }
 
 #[test]

@@ -1,10 +1,10 @@
 //! Tests the readers and writers of std, by their impls.
 
 use super::traces::{STAMPS, STEERED, TRACE};
-use super::{REPORT, SCRIPT, assert_same};
+use super::{REPORT, SCRIPT, assert_same, replayed};
 use std::fs::{self, File};
 use tk_clock::ClockId;
-use tk_replay::{Fault, Sink, Source, replay, trace};
+use tk_replay::{Fault, Sink, Source, trace};
 
 #[test]
 fn a_slice_gives_its_bytes_and_then_none(rt: HostRuntime) {
@@ -31,7 +31,8 @@ fn replays_a_file_into_a_file(rt: HostRuntime) {
     fs::write(&rt, "tk_replay_script", SCRIPT).expect(&rt, "a file");
     let mut script = File::open(&rt, "tk_replay_script").expect(&rt, "a file");
     let mut report = File::create(&rt, "tk_replay_report").expect(&rt, "a file");
-    assert_same(&rt, &replay(rt.alloc(), &mut script, &mut report), &Ok(0));
+    let outcome = replayed(rt.alloc(), false, &mut script, &mut report);
+    assert_same(&rt, &outcome, &Ok(0));
     let text = fs::read(&rt, "tk_replay_report").expect(&rt, "a file");
     assert_same(&rt, &text.as_slice(), &REPORT);
     fs::remove_file(&rt, "tk_replay_script").expect(&rt, "a file");
@@ -59,12 +60,12 @@ fn traces_two_files_into_a_third(rt: HostRuntime) {
 fn reports_a_file_that_gives_or_takes_nothing(rt: HostRuntime) {
     let mut closed = File::create(&rt, "tk_replay_closed").expect(&rt, "a file");
     let mut report = Vec::new(rt.alloc());
-    let unread = replay(rt.alloc(), &mut closed, &mut report);
+    let unread = replayed(rt.alloc(), false, &mut closed, &mut report);
     assert_same(&rt, &unread, &Err(Fault::Read));
     assert_same(&rt, &report.len(), &0);
     let mut script = SCRIPT;
     let mut closed = File::open(&rt, "tk_replay_closed").expect(&rt, "a file");
-    let unwritten = replay(rt.alloc(), &mut script, &mut closed);
+    let unwritten = replayed(rt.alloc(), false, &mut script, &mut closed);
     assert_same(&rt, &unwritten, &Err(Fault::Write { written: 0 }));
     fs::remove_file(&rt, "tk_replay_closed").expect(&rt, "a file");
 }

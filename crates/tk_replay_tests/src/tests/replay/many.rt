@@ -1,13 +1,13 @@
 //! Tests many scripts at once: order, counts, threads and gates.
 
-use super::{REPORT, SCRIPT, assert_lines, assert_same};
+use super::{REPORT, SCRIPT, assert_lines, assert_same, reported};
 use std::alloc::{AllocError, Global};
 use std::process::Abort;
 use std::sync::Wait;
 use std::sync::atomic::{AtomicU64, Ordering};
 use std::thread;
 use std::thread::Threads;
-use tk_replay::{CheckedReport, Gate, ManyError, NoGate, replay_all, report};
+use tk_replay::{CheckedReport, Gate, ManyError, NoGate, replay_all};
 use tk_script::ScriptError;
 
 /// The result for one script.
@@ -24,11 +24,17 @@ pub(super) fn assert_outcomes<G: Gate + Sync>(
     gate: &G,
     wanted: &Outcomes,
 ) {
-    assert_same(
-        rt,
-        &replay_all(rt.alloc(), rt, scripts, workers, gate),
-        wanted,
-    );
+    assert_same(rt, &all_of(rt, scripts, workers, gate), wanted);
+}
+
+/// Returns the reports of all scripts. It states nothing of them.
+fn all_of<G: Gate + Sync>(
+    rt: &(impl AllocGlobal + Threads + Wait + Sync),
+    scripts: &[Vec<u8>],
+    workers: usize,
+    gate: &G,
+) -> Outcomes {
+    replay_all(rt.alloc(), rt, scripts, workers, gate)
 }
 
 /// Returns a report without differences.
@@ -43,7 +49,7 @@ pub(super) fn agreeing(text: Vec<u8>) -> CheckedReport {
 pub(super) fn reports_of(rt: &(impl Abort + AllocGlobal), scripts: &[Vec<u8>]) -> Outcomes {
     let mut reports = Vec::new(rt.alloc());
     for script in scripts {
-        let text = report(rt.alloc(), script.as_slice()).expect(rt, "a report");
+        let text = reported(rt.alloc(), false, script.as_slice()).expect(rt, "a report");
         reports.push(Ok(agreeing(text))).expect(rt, "memory");
     }
     Ok(reports)
@@ -280,7 +286,7 @@ fn many_reports_or_want_of_them(rt: HostRuntime) {
     let alloc = rt.alloc();
     if let (Ok(scripts), Ok(wanted)) = (two(alloc), two_outcomes(alloc)) {
         let gate = Notes::new();
-        match replay_all(alloc, &rt, scripts.as_slice(), 2, &gate) {
+        match all_of(&rt, scripts.as_slice(), 2, &gate) {
             Ok(outcomes) => assert_two(&rt, outcomes.as_slice(), wanted.as_slice()),
             Err(ManyError::Memory) => assert_called_once(&rt, &gate, 0, 0),
             Err(error) => assert_same(&rt, &error, &ManyError::Threads),
@@ -294,7 +300,7 @@ fn many_reports_or_want_of_them(rt: HostRuntime) {
 fn no_script_is_taken_after_a_thread_is_missing(rt: HostRuntime) {
     let scripts = copies(&rt, 8);
     let gate = Notes::new();
-    let taken = match replay_all(rt.alloc(), &rt, scripts.as_slice(), 3, &gate) {
+    let taken = match all_of(&rt, scripts.as_slice(), 3, &gate) {
         Ok(_) => 8,
         Err(error) => {
             assert_same(&rt, &error, &ManyError::Threads);

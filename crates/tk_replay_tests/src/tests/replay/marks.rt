@@ -4,9 +4,9 @@
 //! the requests for memory between the two marks. Without it neither test can fail by its marks.
 
 use super::many::{assert_outcomes, copies, reports_of};
-use super::{REPORT, SCRIPT, assert_same};
+use super::{REPORT, SCRIPT, assert_same, reported};
 use std::alloc::Global;
-use tk_replay::{Gate, report};
+use tk_replay::Gate;
 
 /// Makes one allocation in each call. The library recognizes the call by the request's size.
 #[derive(Drop)]
@@ -29,7 +29,7 @@ impl Gate for Marks {
 fn each_report_is_made_between_the_calls_of_its_gate(rt: HostRuntime) {
     let gate = Marks { alloc: rt.alloc() };
     gate.before(0);
-    let alone = report(rt.alloc(), SCRIPT);
+    let alone = reported(rt.alloc(), false, SCRIPT);
     gate.after(0);
     let alone = alone.expect(&rt, "a report");
     assert_same(&rt, &alone.as_slice(), &REPORT);
