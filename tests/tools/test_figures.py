@@ -107,7 +107,7 @@ class Figures(unittest.TestCase):
 
     def test_calls_with_sse_registers_are_those_of_the_header(self):
         steered = [f"`tkc_ntp_{it}`" for it in ("open", "open_at", "advance", "advance_late", "apply",
-                                                "next_second", "save")]
+                                                "tick", "save")]
         listed = f"`tkc_snapshot_convert`, {', '.join(steered)},\n`tkc_adjtimex` and `tkc_ntp_load`"
         self.assertEqual([], self.sse(f"Only these use SSE registers:\n  {listed} (`sse_calls`)."))
         self.assertEqual([], self.sse(f"| SSE | in most calls | only in {listed} |"))

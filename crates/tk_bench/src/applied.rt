@@ -3,7 +3,6 @@
 use crate::bench::{Bench, Job, Unit};
 use crate::digest::of_snapshot;
 use crate::inputs::OPENED_TIME;
-use anyhow::{Context, Result};
 use std::alloc::Global;
 use std::thread::Threads;
 use std::time::Clock as Hours;
@@ -87,13 +86,15 @@ impl<K: Keeper> Job for Updates<K> {
         }
     }
 
-    fn turn<R: Threads + Hours + Sync>(&mut self, _rt: &R) -> Result<()> {
+    fn turn<R: Threads + Hours + Sync>(&mut self, _rt: &R) -> bool {
         let mut reading = 0u64;
         for _ in 0..UPDATES {
             reading = reading.wrapping_add(STEP);
-            self.keeper.update(reading).context("a command is refused")?;
+            if self.keeper.update(reading).is_none() {
+                return false;
+            }
         }
-        Ok(())
+        true
     }
 
     fn check(&self) -> u64 {
@@ -101,21 +102,27 @@ impl<K: Keeper> Job for Updates<K> {
     }
 }
 
-/// Times updates of a keeper, and of a steered one.
-pub(crate) fn run_applied(rt: &(impl Threads + Hours + Sync), bench: &Bench<'_>) -> Result<()> {
-    run_updates::<Timekeeper, _>(rt, bench, "keeper_apply_1us")?;
-    run_updates::<Steered, _>(rt, bench, "ntp_keeper_apply_1us")
+/// Times updates of a keeper, and of a steered one. Returns `false` if a call fails.
+pub(crate) fn run_applied(rt: &(impl Threads + Hours + Sync), bench: &Bench<'_>) -> bool {
+    if !bench.wants_any("keeper_apply_") && !bench.wants_any("ntp_keeper_") {
+        return true;
+    }
+    run_updates::<Timekeeper, _>(rt, bench, "keeper_apply_1us")
+        && run_updates::<Steered, _>(rt, bench, "ntp_keeper_apply_1us")
 }
 
 fn run_updates<K: Keeper, R: Threads + Hours + Sync>(
     rt: &R,
     bench: &Bench<'_>,
     name: &str,
-) -> Result<()> {
+) -> bool {
     let alloc = bench.alloc();
-    let desc = CounterDesc::new(64, bench.unknown().wrapping_add(16_777_216), 24);
-    let desc = desc.ok().context("no counter")?;
-    let keeper = K::reserved(alloc, desc).context("no keeper")?;
+    let Ok(desc) = CounterDesc::new(64, bench.unknown().wrapping_add(16_777_216), 24) else {
+        return false;
+    };
+    let Some(keeper) = K::reserved(alloc, desc) else {
+        return false;
+    };
     let mut job = Updates {
         alloc,
         desc,

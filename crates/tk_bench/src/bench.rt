@@ -2,7 +2,6 @@
 
 ghost use Rattle.std.specs.Thread.{IsSync};
 
-use anyhow::{Result, bail};
 use std::alloc::Global;
 use std::thread::Threads;
 use std::time::{Clock as Hours, Instant};
@@ -18,8 +17,9 @@ pub(crate) trait Job {
     /// Prepares a turn. This isn't timed.
     fn ready(&mut self) {}
 
-    /// Does the job once. A job with threads starts them through the handle.
-    fn turn<R: Threads + Hours + Sync>(&mut self, rt: &R) -> Result<()>
+    /// Does the job once, and returns whether every call of it succeeded. A job with threads starts
+    /// them through the handle.
+    fn turn<R: Threads + Hours + Sync>(&mut self, rt: &R) -> bool
         requires { IsSync R.row };
 
     /// Returns the time in ns that counts as the last turn's, which took `whole`.
@@ -43,7 +43,7 @@ pub(crate) enum Unit {
 }
 
 /// Names the printed columns of a job.
-#[derive(Clone, Copy, PartialEq, Eq)]
+#[derive(Clone, Copy)]
 enum Telling {
     Checks,
     Times,
@@ -61,18 +61,15 @@ pub(crate) struct Bench<'a> {
 }
 
 impl<'a> Bench<'a> {
-    /// Parses the program's arguments. The first one is the program's name.
-    ///
-    /// # Errors
-    ///
-    /// Fails if the second argument isn't `time`.
-    pub(crate) fn of_words(rt: &'a HostRuntime, words: &'a [String]) -> Result<Bench<'a>> {
+    /// Parses the program's arguments. The first one is the program's name. Returns `None` if the
+    /// second one isn't `time`.
+    pub(crate) fn of_words(rt: &'a HostRuntime, words: &'a [String]) -> Option<Bench<'a>> {
         let (telling, names) = match words {
             [_, word, names @ ..] if word.as_str() == "time" => (Telling::Times, names),
             [] | [_] => (Telling::Checks, &words[..0]),
-            _ => bail!("words refused"),
+            _ => return None,
         };
-        Ok(Bench {
+        Some(Bench {
             rt,
             telling,
             names,
@@ -90,23 +87,14 @@ impl<'a> Bench<'a> {
         self.unknown
     }
 
-    /// Runs jobs if the arguments name one whose name begins with one of these beginnings.
-    pub(crate) fn run_any<F: FnOnce() -> Result<()>>(
-        &self,
-        beginnings: &[&str],
-        jobs: F,
-    ) -> Result<()>
-        requires { F.IsAlwaysCallable jobs }
-    {
-        let is_named = |name: &String| {
-            beginnings
-                .iter()
-                .any(|beginning| name.as_str().starts_with(*beginning))
-        };
-        if self.names.is_empty() || self.names.iter().any(is_named) {
-            jobs()?;
+    /// Returns whether the arguments name a job whose name starts with this beginning.
+    pub(crate) fn wants_any(&self, beginning: &str) -> bool {
+        for name in self.names {
+            if name.as_str().starts_with(beginning) {
+                return true;
+            }
         }
-        Ok(())
+        self.names.is_empty()
     }
 
     /// Returns whether the arguments name this job.
@@ -119,7 +107,8 @@ impl<'a> Bench<'a> {
         self.names.is_empty()
     }
 
-    /// Runs a job if the arguments name it, and prints its line.
+    /// Runs a job if the arguments name it, and prints its line. Returns `false` if the job failed
+    /// or the line couldn't be printed.
     pub(crate) fn run<R: Threads + Hours + Sync, J: Job>(
         &self,
         rt: &R,
@@ -127,43 +116,30 @@ impl<'a> Bench<'a> {
         unit: Unit,
         turns: u32,
         job: &mut J,
-    ) -> Result<()> {
+    ) -> bool {
         if !self.wants(name) {
-            return Ok(());
+            return true;
         }
-        match self.telling {
-            Telling::Checks => {
-                self.least(rt, CHECKED_TURNS, job)?;
-                println!(self.rt; "{name}\t{}", job.check())?;
-            }
-            Telling::Times => {
-                let least = self.least(rt, turns, job)?;
-                self.tell(name, unit, least, job.check())?;
-            }
+        let turns = match self.telling {
+            Telling::Checks => CHECKED_TURNS,
+            Telling::Times => turns,
+        };
+        match least(rt, turns, job) {
+            Some(nanos) => self.tell(name, unit, nanos, job.check()),
+            None => false,
         }
-        Ok(())
     }
 
-    /// Runs `turns` turns, and returns the least time of one in ns.
-    fn least<R: Threads + Hours + Sync, J: Job>(
-        &self,
-        rt: &R,
-        turns: u32,
-        job: &mut J,
-    ) -> Result<u128> {
-        let mut least = u128::MAX;
-        for _ in 0..turns {
-            job.ready();
-            let start = Instant::now(rt)?;
-            job.turn(rt)?;
-            let whole = start.elapsed(rt)?.as_nanos();
-            least = least.min(job.counted(whole));
+    /// Prints a job's line, and returns whether that succeeded.
+    fn tell(&self, name: &str, unit: Unit, nanos: u128, check: u64) -> bool {
+        match self.telling {
+            Telling::Checks => println!(self.rt; "{name}\t{check}").is_ok(),
+            Telling::Times => self.tell_time(name, unit, nanos, check),
         }
-        Ok(least)
     }
 
     /// Prints a job's time, to thousandths of its unit, and its check.
-    fn tell(&self, name: &str, unit: Unit, nanos: u128, check: u64) -> Result<()> {
+    fn tell_time(&self, name: &str, unit: Unit, nanos: u128, check: u64) -> bool {
         let (each, before, of) = match unit {
             Unit::Each(count, of) => (count.max(1), "ns/", of),
             Unit::One => (1_000, "us", ""),
@@ -171,7 +147,22 @@ impl<'a> Bench<'a> {
         };
         let figure = nanos.wrapping_mul(1_000) / u128::from(each);
         let (whole, part) = (figure / 1_000, figure % 1_000);
-        println!(self.rt; "{name}\t{whole}.{part:03}\t{before}{of}\t{check}")?;
-        Ok(())
+        println!(self.rt; "{name}\t{whole}.{part:03}\t{before}{of}\t{check}").is_ok()
     }
+}
+
+/// Runs `turns` turns, and returns the least time of one in ns. Returns `None` if a turn or the
+/// host's clock fails.
+fn least<R: Threads + Hours + Sync, J: Job>(rt: &R, turns: u32, job: &mut J) -> Option<u128> {
+    let mut least = u128::MAX;
+    for _ in 0..turns {
+        job.ready();
+        let start = Instant::now(rt).ok()?;
+        if !job.turn(rt) {
+            return None;
+        }
+        let whole = start.elapsed(rt).ok()?.as_nanos();
+        least = least.min(job.counted(whole));
+    }
+    Some(least)
 }

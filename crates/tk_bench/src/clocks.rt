@@ -3,7 +3,6 @@
 use crate::bench::{Bench, Job, TURNS, Unit};
 use crate::digest::of_snapshot;
 use crate::inputs::OPENED_TIME;
-use anyhow::{Context, Result};
 use std::thread::Threads;
 use std::time::Clock as Hours;
 use tk_clock::{Clock, ClockId, Command, Snapshot};
@@ -22,7 +21,7 @@ struct Gets {
 }
 
 impl Job for Gets {
-    fn turn<R: Threads + Hours + Sync>(&mut self, _rt: &R) -> Result<()> {
+    fn turn<R: Threads + Hours + Sync>(&mut self, _rt: &R) -> bool {
         let mut sum: u64 = 0;
         for turn in 0..CALLS {
             let reading = turn.wrapping_mul(0x9e37_79b9_7f4a_7c15) & self.mask;
@@ -31,7 +30,7 @@ impl Job for Gets {
             }
         }
         self.sum = sum;
-        Ok(())
+        true
     }
 
     fn check(&self) -> u64 {
@@ -49,7 +48,7 @@ struct Updates {
 }
 
 impl Job for Updates {
-    fn turn<R: Threads + Hours + Sync>(&mut self, _rt: &R) -> Result<()> {
+    fn turn<R: Threads + Hours + Sync>(&mut self, _rt: &R) -> bool {
         let mut clock = self.opened;
         let mut reading: u64 = 0;
         let mut accepted: u64 = 0;
@@ -60,7 +59,7 @@ impl Job for Updates {
             }
         }
         self.updated = clock.snapshot(accepted);
-        Ok(())
+        true
     }
 
     fn check(&self) -> u64 {
@@ -69,41 +68,60 @@ impl Job for Updates {
 }
 
 /// Times reads near the last command and far from it, and updates 1 microsecond and 0.7 s apart.
-pub(crate) fn run_clocks(rt: &(impl Threads + Hours + Sync), bench: &Bench<'_>) -> Result<()> {
+/// Returns `false` if a call fails.
+pub(crate) fn run_clocks(rt: &(impl Threads + Hours + Sync), bench: &Bench<'_>) -> bool {
     let unknown = bench.unknown();
-    let fine = opened(unknown, 32, 16_777_216).context("no clocks")?;
-    let wide = opened(unknown, 64, 699_050_667).context("no clocks")?;
-    let clock = if unknown == 0 {
+    let Some(fine) = opened(unknown, 32, 16_777_216) else {
+        return false;
+    };
+    let Some(wide) = opened(unknown, 64, 699_050_667) else {
+        return false;
+    };
+    run_gets(rt, bench, "clock_get_1ms", fine, 0xf_ffff)
+        && run_gets(rt, bench, "clock_get_2s", fine, 0x7fff_ffff)
+        && run_gets(rt, bench, "clock_get_12h", wide, 0xff_ffff_ffff)
+        && run_updates(rt, bench, "clock_apply_1us", fine, 1_000, 0xffff_ffff)
+        && run_updates(rt, bench, "clock_apply_700ms", wide, 16_777_216, u64::MAX)
+}
+
+/// Times reads of REALTIME, which the compiler can't know.
+fn run_gets(
+    rt: &(impl Threads + Hours + Sync),
+    bench: &Bench<'_>,
+    name: &str,
+    opened: Clock,
+    mask: u64,
+) -> bool {
+    let clock = if bench.unknown() == 0 {
         ClockId::Realtime
     } else {
         ClockId::Tai
     };
-    for (name, opened, mask) in [
-        ("clock_get_1ms", fine, 0xf_ffff),
-        ("clock_get_2s", fine, 0x7fff_ffff),
-        ("clock_get_12h", wide, 0xff_ffff_ffff),
-    ] {
-        let mut job = Gets {
-            snapshot: opened.snapshot(0),
-            clock,
-            mask,
-            sum: 0,
-        };
-        bench.run(rt, name, Unit::Each(CALLS, "read"), TURNS, &mut job)?;
-    }
-    for (name, opened, step, mask) in [
-        ("clock_apply_1us", fine, 1_000, 0xffff_ffff),
-        ("clock_apply_700ms", wide, 16_777_216, u64::MAX),
-    ] {
-        let mut job = Updates {
-            opened,
-            step,
-            mask,
-            updated: opened.snapshot(0),
-        };
-        bench.run(rt, name, Unit::Each(CALLS, "command"), TURNS, &mut job)?;
-    }
-    Ok(())
+    let mut job = Gets {
+        snapshot: opened.snapshot(0),
+        clock,
+        mask,
+        sum: 0,
+    };
+    bench.run(rt, name, Unit::Each(CALLS, "read"), TURNS, &mut job)
+}
+
+/// Times updates.
+fn run_updates(
+    rt: &(impl Threads + Hours + Sync),
+    bench: &Bench<'_>,
+    name: &str,
+    opened: Clock,
+    step: u64,
+    mask: u64,
+) -> bool {
+    let mut job = Updates {
+        opened,
+        step,
+        mask,
+        updated: opened.snapshot(0),
+    };
+    bench.run(rt, name, Unit::Each(CALLS, "command"), TURNS, &mut job)
 }
 
 /// Opens clocks of a counter whose numbers the compiler can't know.

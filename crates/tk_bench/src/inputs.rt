@@ -2,7 +2,6 @@
 
 ghost use Rattle.std.specs.Prelude.{◌<◌};
 
-use anyhow::Result;
 use std::alloc::{AllocError, Global};
 use tk_clock::Timespec;
 
@@ -52,7 +51,11 @@ fn stamps_within(alloc: Global, count: usize, bits: u32, span: u64) -> Result<Ve
 }
 
 /// Returns a script of updates 10 ns apart, each followed by a read of the clock if one is named.
-pub(crate) fn script(alloc: Global, updates: u64, clock: Option<&str>) -> Result<Vec<u8>> {
+pub(crate) fn script(
+    alloc: Global,
+    updates: u64,
+    clock: Option<&str>,
+) -> Result<Vec<u8>, AllocError> {
     let mut script = Vec::from_slice(alloc, b"open,64,16777216,24,0,1700000000,0\n")?;
     for n in 0..updates {
         let reading = n.wrapping_mul(10);
@@ -97,7 +100,7 @@ impl Fronts {
 }
 
 /// Returns a stamp file with such fronts. The stamps rise by 997 cycles.
-pub(crate) fn stamp_file(alloc: Global, count: u64, fronts: Fronts) -> Result<Vec<u8>> {
+pub(crate) fn stamp_file(alloc: Global, count: u64, fronts: Fronts) -> Result<Vec<u8>, AllocError> {
     let mut file = Vec::new(alloc);
     for n in 0..count {
         let (front, stamp) = (fronts.of_stamp(n), n.wrapping_mul(997));

@@ -3,7 +3,6 @@
 use crate::bench::{Bench, Job, Unit};
 use crate::digest::of_snapshot;
 use crate::inputs::OPENED_TIME;
-use anyhow::{Context, Result};
 use std::alloc::Global;
 use std::thread::Threads;
 use std::time::{Clock as Hours, Instant};
@@ -31,25 +30,30 @@ struct Commands {
 }
 
 impl Commands {
-    /// Applies the command of this number, after a fold if the journal is full.
-    fn command(&mut self, step: u64) -> Result<()> {
+    /// Applies the command of this number, after a fold if the journal is full. Returns whether it
+    /// is accepted.
+    fn command(&mut self, step: u64) -> bool {
         let reading = step.wrapping_mul(1_000) & 0xffff_ffff;
-        if self.keeper.apply(0, reading, Command::Update).is_err() {
-            let _ = self.keeper.fold(KEPT);
-            let again = self.keeper.apply(0, reading, Command::Update);
-            again.ok().context("a command is refused")?;
+        if self.keeper.apply(0, reading, Command::Update).is_ok() {
+            return true;
         }
-        Ok(())
+        let _ = self.keeper.fold(KEPT);
+        self.keeper.apply(0, reading, Command::Update).is_ok()
     }
 }
 
 impl Job for Commands {
-    fn turn<R: Threads + Hours + Sync>(&mut self, _rt: &R) -> Result<()> {
-        self.keeper = opened(self.alloc, self.desc).context("no keeper")?;
+    fn turn<R: Threads + Hours + Sync>(&mut self, _rt: &R) -> bool {
+        let Some(keeper) = opened(self.alloc, self.desc) else {
+            return false;
+        };
+        self.keeper = keeper;
         for step in 0..self.count {
-            self.command(step)?;
+            if !self.command(step) {
+                return false;
+            }
         }
-        Ok(())
+        true
     }
 
     fn check(&self) -> u64 {
@@ -67,18 +71,25 @@ struct LongestCommand {
 }
 
 impl Job for LongestCommand {
-    fn turn<R: Threads + Hours + Sync>(&mut self, rt: &R) -> Result<()> {
-        let mut keeper = opened(self.commands.alloc, self.commands.desc).context("no keeper")?;
-        let reserved = keeper.reserve(LISTED as usize);
-        reserved.ok().context("no memory for a journal")?;
+    fn turn<R: Threads + Hours + Sync>(&mut self, rt: &R) -> bool {
+        let Some(keeper) = reserved(self.commands.alloc, self.commands.desc) else {
+            return false;
+        };
         self.commands.keeper = keeper;
         self.longest = 0;
         for step in 0..self.commands.count {
-            let start = Instant::now(rt)?;
-            self.commands.command(step)?;
-            self.longest = self.longest.max(start.elapsed(rt)?.as_nanos());
+            let Ok(start) = Instant::now(rt) else {
+                return false;
+            };
+            if !self.commands.command(step) {
+                return false;
+            }
+            let Ok(time) = start.elapsed(rt) else {
+                return false;
+            };
+            self.longest = self.longest.max(time.as_nanos());
         }
-        Ok(())
+        true
     }
 
     fn counted(&self, _whole: u128) -> u128 {
@@ -98,7 +109,7 @@ struct Past {
 }
 
 impl Job for Past {
-    fn turn<R: Threads + Hours + Sync>(&mut self, _rt: &R) -> Result<()> {
+    fn turn<R: Threads + Hours + Sync>(&mut self, _rt: &R) -> bool {
         self.sum = 0;
         for step in 0..READS {
             let front = step.wrapping_mul(0x9e37_79b9_7f4a_7c15) >> 44;
@@ -106,7 +117,7 @@ impl Job for Past {
                 self.sum = self.sum.wrapping_add(snapshot.last() ^ snapshot.frac());
             }
         }
-        Ok(())
+        true
     }
 
     fn check(&self) -> u64 {
@@ -115,26 +126,39 @@ impl Job for Past {
 }
 
 /// Times ten million updates with folds, the longest of them, and snapshots of a full journal.
-pub(crate) fn run_keepers(rt: &(impl Threads + Hours + Sync), bench: &Bench<'_>) -> Result<()> {
-    let (alloc, unknown) = (bench.alloc(), bench.unknown());
-    let desc = CounterDesc::new(32, unknown.wrapping_add(16_777_216), 24);
-    let desc = desc.ok().context("no counter")?;
-    let mut job = Commands {
-        alloc,
-        desc,
-        count: COMMANDS,
-        keeper: opened(alloc, desc).context("no keeper")?,
-    };
+/// Returns `false` if a call fails.
+pub(crate) fn run_keepers(rt: &(impl Threads + Hours + Sync), bench: &Bench<'_>) -> bool {
+    if !bench.wants_any("keeper_") {
+        return true;
+    }
+    match updates_of(bench.alloc(), bench.unknown()) {
+        Some(job) => run_commands(rt, bench, job),
+        None => false,
+    }
+}
+
+/// Times the updates, and what follows them.
+fn run_commands(rt: &(impl Threads + Hours + Sync), bench: &Bench<'_>, mut job: Commands) -> bool {
     let unit = Unit::Each(COMMANDS, "command");
-    bench.run(rt, "keeper_commands_10000000", unit, 1, &mut job)?;
-    let mut longest = LongestCommand {
-        commands: job,
+    bench.run(rt, "keeper_commands_10000000", unit, 1, &mut job) && run_longest(rt, bench, job)
+}
+
+/// Times the longest update, and the snapshots.
+fn run_longest(rt: &(impl Threads + Hours + Sync), bench: &Bench<'_>, commands: Commands) -> bool {
+    let mut job = LongestCommand {
+        commands,
         longest: 0,
     };
-    bench.run(rt, "keeper_longest_command", Unit::One, 3, &mut longest)?;
-    let mut job = longest.commands;
+    bench.run(rt, "keeper_longest_command", Unit::One, 3, &mut job)
+        && run_past(rt, bench, job.commands)
+}
+
+/// Times the snapshots, of a keeper that it fills.
+fn run_past(rt: &(impl Threads + Hours + Sync), bench: &Bench<'_>, mut job: Commands) -> bool {
     job.count = LISTED;
-    job.turn(rt)?;
+    if !job.turn(rt) {
+        return false;
+    }
     let mut job = Past {
         keeper: job.keeper,
         sum: 0,
@@ -148,6 +172,27 @@ pub(crate) fn run_keepers(rt: &(impl Threads + Hours + Sync), bench: &Bench<'_>)
     )
 }
 
+/// Returns the updates of a counter whose numbers the compiler can't know.
+fn updates_of(alloc: Global, unknown: u32) -> Option<Commands> {
+    let desc = CounterDesc::new(32, unknown.wrapping_add(16_777_216), 24).ok()?;
+    let keeper = opened(alloc, desc)?;
+    Some(Commands {
+        alloc,
+        desc,
+        count: COMMANDS,
+        keeper,
+    })
+}
+
 fn opened(alloc: Global, desc: CounterDesc) -> Option<Timekeeper> {
     Timekeeper::open(alloc, desc, 0, OPENED_TIME).ok()
+}
+
+/// Opens a keeper with memory for a full journal.
+fn reserved(alloc: Global, desc: CounterDesc) -> Option<Timekeeper> {
+    let mut keeper = opened(alloc, desc)?;
+    match keeper.reserve(LISTED as usize) {
+        Ok(()) => Some(keeper),
+        Err(_) => None,
+    }
 }

@@ -3,7 +3,6 @@
 use crate::bench::{Bench, Job, TURNS, Unit};
 use crate::digest::of_snapshot;
 use crate::inputs::OPENED_TIME;
-use anyhow::{Context, Result};
 use std::thread::Threads;
 use std::time::Clock as Hours;
 use tk_clock::Command;
@@ -46,7 +45,7 @@ struct Requests {
 }
 
 impl Job for Requests {
-    fn turn<R: Threads + Hours + Sync>(&mut self, _rt: &R) -> Result<()> {
+    fn turn<R: Threads + Hours + Sync>(&mut self, _rt: &R) -> bool {
         let (mut steered, mut request) = (self.opened, self.request);
         let (mut reading, mut sum) = (0u64, 0u64);
         for turn in 0..CALLS {
@@ -61,7 +60,7 @@ impl Job for Requests {
             }
         }
         (self.left, self.sum) = (steered, sum);
-        Ok(())
+        true
     }
 
     fn check(&self) -> u64 {
@@ -70,7 +69,7 @@ impl Job for Requests {
 }
 
 /// Brings the clocks forward by `count` calls, `step` cycles apart.
-#[derive(Drop)]
+#[derive(Clone, Copy)]
 struct Calls {
     opened: SteeredClock,
     call: Call,
@@ -80,7 +79,7 @@ struct Calls {
 }
 
 impl Job for Calls {
-    fn turn<R: Threads + Hours + Sync>(&mut self, _rt: &R) -> Result<()> {
+    fn turn<R: Threads + Hours + Sync>(&mut self, _rt: &R) -> bool {
         let (mut steered, mut reading) = (self.opened, 0u64);
         for _ in 0..self.count {
             reading = reading.wrapping_add(self.step);
@@ -88,10 +87,12 @@ impl Job for Calls {
                 Call::Advance => steered.advance(reading),
                 Call::Update => steered.apply(reading, Command::Update),
             };
-            called.ok().context("a call is refused")?;
+            if called.is_err() {
+                return false;
+            }
         }
         self.left = steered;
-        Ok(())
+        true
     }
 
     fn check(&self) -> u64 {
@@ -100,43 +101,85 @@ impl Job for Calls {
 }
 
 /// Times requests of a daemon and requests that only read, seconds one by one and a day at once,
-/// and updates.
-pub(crate) fn run_steered(rt: &(impl Threads + Hours + Sync), bench: &Bench<'_>) -> Result<()> {
-    let opened = opened(bench.unknown()).context("no steered clocks")?;
-    for (name, request) in [
-        ("ntp_adjtimex", daemon_request()),
-        ("ntp_adjtimex_read", Timex::default()),
-    ] {
-        let mut job = Requests {
-            opened,
-            request,
-            left: opened,
-            sum: 0,
-        };
-        bench.run(rt, name, Unit::Each(CALLS, "request"), TURNS, &mut job)?;
+/// and updates. Returns `false` if a call fails.
+pub(crate) fn run_steered(rt: &(impl Threads + Hours + Sync), bench: &Bench<'_>) -> bool {
+    if !bench.wants_any("ntp_") {
+        return true;
     }
-    let each = Unit::Each(SECONDS, "second");
-    for (name, unit, call, count, step) in [
-        ("ntp_advance", each, Call::Advance, SECONDS, SECOND),
-        ("ntp_advance_day", Unit::Whole, Call::Advance, 1, DAY),
-        (
+    let Some(opened) = opened(bench.unknown()) else {
+        return false;
+    };
+    run_requests(rt, bench, "ntp_adjtimex", opened, daemon_request())
+        && run_requests(rt, bench, "ntp_adjtimex_read", opened, Timex::default())
+        && run_seconds(rt, bench, opened)
+}
+
+/// Times seconds and updates.
+fn run_seconds(
+    rt: &(impl Threads + Hours + Sync),
+    bench: &Bench<'_>,
+    opened: SteeredClock,
+) -> bool {
+    let seconds = Calls {
+        opened,
+        call: Call::Advance,
+        count: SECONDS,
+        step: SECOND,
+        left: opened,
+    };
+    let day = Calls {
+        count: 1,
+        step: DAY,
+        ..seconds
+    };
+    let updates = Calls {
+        call: Call::Update,
+        count: CALLS,
+        step: STEP,
+        ..seconds
+    };
+    run_calls(
+        rt,
+        bench,
+        "ntp_advance",
+        Unit::Each(SECONDS, "second"),
+        seconds,
+    ) && run_calls(rt, bench, "ntp_advance_day", Unit::Whole, day)
+        && run_calls(
+            rt,
+            bench,
             "ntp_apply_1us",
             Unit::Each(CALLS, "command"),
-            Call::Update,
-            CALLS,
-            STEP,
-        ),
-    ] {
-        let mut job = Calls {
-            opened,
-            call,
-            count,
-            step,
-            left: opened,
-        };
-        bench.run(rt, name, unit, TURNS, &mut job)?;
-    }
-    Ok(())
+            updates,
+        )
+}
+
+/// Times these requests.
+fn run_requests(
+    rt: &(impl Threads + Hours + Sync),
+    bench: &Bench<'_>,
+    name: &str,
+    opened: SteeredClock,
+    request: Timex,
+) -> bool {
+    let mut job = Requests {
+        opened,
+        request,
+        left: opened,
+        sum: 0,
+    };
+    bench.run(rt, name, Unit::Each(CALLS, "request"), TURNS, &mut job)
+}
+
+/// Times these calls.
+fn run_calls(
+    rt: &(impl Threads + Hours + Sync),
+    bench: &Bench<'_>,
+    name: &str,
+    unit: Unit,
+    mut job: Calls,
+) -> bool {
+    bench.run(rt, name, unit, TURNS, &mut job)
 }
 
 /// Opens steered clocks of a counter whose numbers the compiler can't know. They have an offset of

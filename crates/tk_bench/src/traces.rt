@@ -4,7 +4,6 @@
 use crate::bench::{Bench, Job, Unit};
 use crate::digest::of_numbers;
 use crate::inputs::{OPENED_TIME, OPENING, far_stamps, repeated, stamps};
-use anyhow::{Context, Result, ensure};
 use std::alloc::Global;
 use std::thread::Threads;
 use std::time::Clock as Hours;
@@ -30,6 +29,9 @@ const FORMS: [(&str, Form); 4] = [
     ("pieces_into", Form::TraceAllInto),
 ];
 
+/// The size of the list of stamps that go up to 12 hours.
+const FAR: &str = "12h";
+
 /// Converts one list.
 #[derive(Drop)]
 struct Trace {
@@ -50,21 +52,28 @@ impl Job for Trace {
         self.made = Vec::new(self.alloc);
     }
 
-    fn turn<R: Threads + Hours + Sync>(&mut self, rt: &R) -> Result<()> {
+    fn turn<R: Threads + Hours + Sync>(&mut self, rt: &R) -> bool {
         let (fronts, stamps) = (self.fronts.as_slice(), self.stamps.as_slice());
         let (keeper, clock) = (&self.keeper, ClockId::Realtime);
         let out = self.out.as_mut_slice();
-        ensure!(fronts.len() == stamps.len(), "lists of two lengths");
-        ensure!(stamps.len() == out.len(), "lists of two lengths");
-        match self.form {
-            Form::Trace => self.made = keeper.trace(fronts, stamps, clock)?,
-            Form::TraceInto => keeper.trace_into(fronts, stamps, clock, out)?,
-            Form::TraceAll => {
-                self.made = trace_all(self.alloc, rt, keeper, fronts, stamps, clock)?;
-            }
-            Form::TraceAllInto => trace_all_into(rt, keeper, fronts, stamps, clock, out)?,
+        if fronts.len() != stamps.len() || stamps.len() != out.len() {
+            return false;
         }
-        Ok(())
+        let made = match self.form {
+            Form::Trace => keeper.trace(fronts, stamps, clock),
+            Form::TraceAll => trace_all(self.alloc, rt, keeper, fronts, stamps, clock),
+            Form::TraceInto => return keeper.trace_into(fronts, stamps, clock, out).is_ok(),
+            Form::TraceAllInto => {
+                return trace_all_into(rt, keeper, fronts, stamps, clock, out).is_ok();
+            }
+        };
+        match made {
+            Ok(made) => {
+                self.made = made;
+                true
+            }
+            Err(_) => false,
+        }
     }
 
     fn check(&self) -> u64 {
@@ -76,56 +85,85 @@ impl Job for Trace {
 }
 
 /// Times all forms at 100,000, a million and ten million stamps, and the forms of one thread at
-/// 100,000 stamps that go up to 12 hours.
-pub(crate) fn run_traces(rt: &(impl Threads + Hours + Sync), bench: &Bench<'_>) -> Result<()> {
-    let alloc = bench.alloc();
-    run_forms(rt, bench, "100000", stamps(alloc, 100_000)?, 50, &FORMS)?;
-    run_forms(
-        rt,
-        bench,
-        "12h",
-        far_stamps(alloc, 100_000)?,
-        50,
-        &FORMS[..2],
-    )?;
-    run_forms(rt, bench, "1000000", stamps(alloc, 1_000_000)?, 20, &FORMS)?;
-    run_forms(rt, bench, "10000000", stamps(alloc, 10_000_000)?, 5, &FORMS)
+/// 100,000 stamps that go up to 12 hours. Returns `false` if a call fails.
+pub(crate) fn run_traces(rt: &(impl Threads + Hours + Sync), bench: &Bench<'_>) -> bool {
+    if !bench.wants_any("trace_") && !bench.wants_any("pieces_") {
+        return true;
+    }
+    run_list(rt, bench, 100_000, "100000", 50, &FORMS)
+        && run_list(rt, bench, 100_000, FAR, 50, &FORMS[..2])
+        && run_list(rt, bench, 1_000_000, "1000000", 20, &FORMS)
+        && run_list(rt, bench, 10_000_000, "10000000", 5, &FORMS)
 }
 
-/// Times these forms with a list of stamps, whose size ends the names of the jobs.
+/// Times these forms with a list of `count` stamps, whose size ends the names of the jobs.
+fn run_list(
+    rt: &(impl Threads + Hours + Sync),
+    bench: &Bench<'_>,
+    count: usize,
+    size: &str,
+    turns: u32,
+    forms: &[(&str, Form)],
+) -> bool {
+    let stamps = if size == FAR {
+        far_stamps(bench.alloc(), count)
+    } else {
+        stamps(bench.alloc(), count)
+    };
+    let Ok(stamps) = stamps else {
+        return false;
+    };
+    match traced(bench.alloc(), bench.unknown(), stamps) {
+        Some(mut job) => run_forms(rt, bench, &mut job, size, turns, forms),
+        None => false,
+    }
+}
+
+/// Makes the memory of a list's times, and a keeper.
+fn traced(alloc: Global, unknown: u32, stamps: Vec<u64>) -> Option<Trace> {
+    let keeper = opened(alloc, unknown)?;
+    let fronts = repeated(alloc, stamps.len(), 1).ok()?;
+    let out = repeated(alloc, stamps.len(), 0).ok()?;
+    Some(Trace {
+        form: Form::Trace,
+        alloc,
+        keeper,
+        fronts,
+        stamps,
+        made: Vec::new(alloc),
+        out,
+    })
+}
+
+/// Times these forms.
 fn run_forms(
     rt: &(impl Threads + Hours + Sync),
     bench: &Bench<'_>,
+    job: &mut Trace,
     size: &str,
-    stamps: Vec<u64>,
     turns: u32,
     forms: &[(&str, Form)],
-) -> Result<()> {
-    let alloc = bench.alloc();
-    let count = stamps.len();
-    let mut job = Trace {
-        form: Form::Trace,
-        alloc,
-        keeper: opened(alloc, bench.unknown()).context("no keeper")?,
-        fronts: repeated(alloc, count, 1)?,
-        stamps,
-        made: Vec::new(alloc),
-        out: repeated(alloc, count, 0)?,
-    };
-    let unit = Unit::Each(count as u64, "stamp");
+) -> bool {
+    let unit = Unit::Each(job.stamps.len() as u64, "stamp");
     for &(form_name, form) in forms {
         job.form = form;
         job.out.fill(0);
-        let name = format!(in alloc; "{form_name}_{size}")?;
-        bench.run(rt, name.as_str(), unit, turns, &mut job)?;
+        let Ok(name) = format!(in bench.alloc(); "{form_name}_{size}") else {
+            return false;
+        };
+        if !bench.run(rt, name.as_str(), unit, turns, job) {
+            return false;
+        }
     }
-    Ok(())
+    true
 }
 
 /// Opens a keeper with one command, of a counter of one nanosecond a cycle.
 fn opened(alloc: Global, unknown: u32) -> Option<Timekeeper> {
     let desc = CounterDesc::new(48, unknown.wrapping_add(16_777_216), 24).ok()?;
     let mut keeper = Timekeeper::open(alloc, desc, OPENING, OPENED_TIME).ok()?;
-    keeper.apply(0, OPENING, Command::Update).ok()?;
-    Some(keeper)
+    match keeper.apply(0, OPENING, Command::Update) {
+        Ok(_) => Some(keeper),
+        Err(_) => None,
+    }
 }

@@ -56,11 +56,7 @@ impl LatchDesk {
         let Some(front) = self.front.checked_add(1) else {
             return false;
         };
-        if self
-            .clock
-            .apply(reading_of(front), Command::Update)
-            .is_err()
-        {
+        if !updated(&mut self.clock, reading_of(front)) {
             return false;
         }
         let snapshot = self.clock.snapshot(front);
@@ -70,4 +66,13 @@ impl LatchDesk {
         }
         is_published
     }
+}
+
+/// Updates clocks. Returns whether the update is accepted. The desk needs only the counter of the
+/// command's contract.
+#[inline(always)]
+fn updated(clock: &mut Clock, reading: u64) -> bool
+    ensures counter { clock.new.base.counter ≡ clock.old.base.counter }
+{
+    clock.apply(reading, Command::Update).is_ok()
 }

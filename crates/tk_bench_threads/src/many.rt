@@ -5,7 +5,7 @@ use std::sync::Wait;
 use std::thread::Threads;
 use std::time::{Clock as Hours, Instant};
 use tk_race::NoGate;
-use tk_replay::replay_all;
+use tk_report::{CheckedReport, replay_all};
 use tk_test_support::{Effort, IN_MILLISECONDS, Turn};
 
 const SCRIPTS: usize = 8;
@@ -48,20 +48,38 @@ pub fn turn<R: Threads + Wait + Hours + Sync>(
     workers: usize,
     effort: Effort,
 ) -> Option<Turn> {
-    let scripts = scripts(alloc, effort.of(PAIRS)).ok()?;
-    let start = Instant::now(rt).ok()?;
-    let outcomes = replay_all(alloc, rt, scripts.as_slice(), workers, &NoGate).ok()?;
-    let time = start.elapsed(rt).ok()?;
-    let mut check = 0u64;
-    for outcome in &outcomes {
-        let Ok(report) = outcome else {
-            return None;
-        };
-        check = weighed(check, report.text.as_slice());
+    match scripts(alloc, effort.of(PAIRS)) {
+        Ok(scripts) => timed(rt, alloc, scripts.as_slice(), workers),
+        Err(_) => None,
     }
+}
+
+/// Times the reports of these scripts.
+fn timed<R: Threads + Wait + Hours + Sync>(
+    rt: &R,
+    alloc: Global,
+    scripts: &[Vec<u8>],
+    workers: usize,
+) -> Option<Turn> {
+    let start = Instant::now(rt).ok()?;
+    let outcomes = replay_all(alloc, rt, scripts, workers, &NoGate).ok()?;
+    let time = start.elapsed(rt).ok()?;
+    let check = check_of(outcomes.as_slice())?;
     Some(Turn {
         time,
         count: IN_MILLISECONDS,
         check,
     })
+}
+
+/// Returns a number computed from all reports, or `None` if one of them is missing.
+fn check_of<E>(outcomes: &[Result<CheckedReport, E>]) -> Option<u64> {
+    let mut check = 0u64;
+    for outcome in outcomes {
+        let Ok(report) = outcome else {
+            return None;
+        };
+        check = weighed(check, report.text.as_slice());
+    }
+    Some(check)
 }

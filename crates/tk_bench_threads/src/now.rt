@@ -105,13 +105,9 @@ fn asks<L: Named, C: Counter, S: SharedCounter, R: Wait>(
     let mut tally = Tally::new();
     for _ in 0..count {
         let time = match asked {
-            Asked::Now => keeper.now(rt, caller, counter, ClockId::Monotonic).ok(),
+            Asked::Now => now_by(rt, keeper, caller, counter),
             Asked::NowFast => fast(keeper, caller, counter),
-            Asked::Parts => {
-                let snapshot = keeper.read(rt, caller);
-                let reading = counter.read(look) & snapshot.desc().mask();
-                snapshot.get(ClockId::Monotonic, reading).ok()
-            }
+            Asked::Parts => by_parts(rt, keeper, caller, counter, look),
         };
         if let Some(time) = time {
             tally.add(time);
@@ -120,15 +116,40 @@ fn asks<L: Named, C: Counter, S: SharedCounter, R: Wait>(
     tally
 }
 
+/// Returns the time now. Its caller needs nothing of the call's contract.
+#[inline(always)]
+fn now_by<L: Named, C: Counter, S: SharedCounter, R: Wait>(
+    rt: &R,
+    keeper: &SharedKeeper<L, C>,
+    caller: &mut Caller<L>,
+    counter: &S,
+) -> Option<Timespec> {
+    keeper.now(rt, caller, counter, ClockId::Monotonic).ok()
+}
+
+/// Reads the page and then the counter, and returns the time at this reading.
+#[inline(always)]
+fn by_parts<L: Named, C: Counter, S: SharedCounter, R: Wait>(
+    rt: &R,
+    keeper: &SharedKeeper<L, C>,
+    caller: &mut Caller<L>,
+    counter: &S,
+    look: &Look,
+) -> Option<Timespec> {
+    let snapshot = keeper.read(rt, caller);
+    let reading = counter.read(look) & snapshot.desc().mask();
+    snapshot.get(ClockId::Monotonic, reading).ok()
+}
+
 /// Gives an update a thousand times a second until `enough` is set.
 fn updates_slowly<L: Named, C: Counter, R: Wait + Hours>(
     rt: &R,
     keeper: &SharedKeeper<L, C>,
-    mut caller: Caller<L>,
+    caller: &mut Caller<L>,
     enough: &AtomicBool,
 ) {
     for _ in rt.forever() {
-        let _ = keeper.command(rt, &mut caller, Command::Update);
+        let _ = keeper.command(rt, caller, Command::Update);
         if enough.load(Ordering::SeqCst) {
             return;
         }
@@ -142,13 +163,17 @@ fn timed<L: Named + Send + Sync, S: SharedCounter + Sync, R: Threads + Wait + Ho
     alloc: Global,
     prepared: Prepared<SharedReader<'_, S>>,
     counter: &S,
+    look: &Look,
     calls: Calls,
 ) -> Option<(Duration, Tally)>
     requires named { IsNamed prepared L.page L.latch L.notice L.name L.parts L.callers }
 {
-    let look = Look::first(alloc).ok()?;
-    let (keeper, callers) = SharedKeeper::<L, SharedReader<'_, S>>::open(alloc, prepared).ok()?;
-    timed_by(rt, &keeper, callers, counter, &look, calls)
+    match SharedKeeper::<L, SharedReader<'_, S>>::open(alloc, prepared) {
+        Ok((keeper, mut callers)) => {
+            timed_by(rt, &keeper, callers.as_mut_slice(), counter, look, calls)
+        }
+        Err(_) => None,
+    }
 }
 
 /// Times the calls of the last caller. Another one gives the commands.
@@ -160,12 +185,13 @@ fn timed_by<
 >(
     rt: &R,
     keeper: &SharedKeeper<L, C>,
-    mut callers: Vec<Caller<L>>,
+    callers: &mut [Caller<L>],
     counter: &S,
     look: &Look,
     calls: Calls,
 ) -> Option<(Duration, Tally)> {
-    let (caller, other) = (callers.pop()?, callers.pop()?);
+    let (caller, others) = callers.split_last_mut()?;
+    let other = others.first_mut()?;
     let start = Instant::now(rt).ok()?;
     let tally = answered(rt, keeper, caller, other, counter, look, calls);
     Some((start.elapsed(rt).ok()?, tally))
@@ -181,8 +207,8 @@ fn answered<
 >(
     rt: &R,
     keeper: &SharedKeeper<L, C>,
-    mut caller: Caller<L>,
-    other: Caller<L>,
+    caller: &mut Caller<L>,
+    other: &mut Caller<L>,
     counter: &S,
     look: &Look,
     calls: Calls,
@@ -193,11 +219,11 @@ fn answered<
         count,
     } = calls;
     match beside {
-        Beside::Nothing => asks(rt, keeper, &mut caller, counter, look, asked, count),
+        Beside::Nothing => asks(rt, keeper, caller, counter, look, asked, count),
         Beside::Updates => at_once(
             rt,
             move |enough: &AtomicBool| updates_slowly(rt, keeper, other, enough),
-            move || asks(rt, keeper, &mut caller, counter, look, asked, count),
+            move || asks(rt, keeper, caller, counter, look, asked, count),
         ),
     }
 }
@@ -209,9 +235,10 @@ fn tallied<S: SharedCounter + Sync, R: Threads + Wait + Hours + Sync>(
     counter: &S,
     calls: Calls,
 ) -> Option<(Duration, Tally)> {
+    let look = Look::first(alloc).ok()?;
     let reader = SharedReader::new(alloc, counter).ok()?;
     let prepared = prepared(rt, alloc, reader, 2)?;
-    timed::<Brand, S, R>(rt, alloc, prepared, counter, calls)
+    timed::<Brand, S, R>(rt, alloc, prepared, counter, &look, calls)
 }
 
 /// Times calls with a counter that every read advances. The check is the sum of the answers or,

@@ -4,6 +4,7 @@ use std::sync::Wait;
 use std::thread::Threads;
 use std::time::{Clock as Hours, Instant};
 use tk_clock::Command;
+use tk_counter::CounterDesc;
 use tk_race::{Action, NoGate, race};
 use tk_test_support::{Effort, OPENED_TIME, STEP, Turn, nanosecond_counter, weighed};
 
@@ -28,19 +29,21 @@ pub fn turn<R: Threads + Wait + Hours + Sync>(
     effort: Effort,
 ) -> Option<Turn> {
     let desc = nanosecond_counter().ok()?;
-    let actors = updates(alloc, effort.of(ORDERS)).ok()?;
+    match updates(alloc, effort.of(ORDERS)) {
+        Ok(actors) => timed(rt, alloc, desc, actors.as_slice()),
+        Err(_) => None,
+    }
+}
+
+/// Times a race of these actors.
+fn timed<R: Threads + Wait + Hours + Sync>(
+    rt: &R,
+    alloc: Global,
+    desc: CounterDesc,
+    actors: &[Vec<Action>],
+) -> Option<Turn> {
     let start = Instant::now(rt).ok()?;
-    let report = race(
-        alloc,
-        rt,
-        desc,
-        0,
-        OPENED_TIME,
-        STEP,
-        actors.as_slice(),
-        &NoGate,
-    )
-    .ok()?;
+    let report = race(alloc, rt, desc, 0, OPENED_TIME, STEP, actors, &NoGate).ok()?;
     let time = start.elapsed(rt).ok()?;
     let count = report.keeper.len() as u64;
     let check = weighed(&report.keeper.snapshot());

@@ -45,23 +45,25 @@ fn worked<L: Named + Send + Sync, R: Threads + Wait + Hours + Sync>(
 ) -> Option<Turn>
     requires named { IsNamed prepared L.page L.latch L.notice L.name L.parts L.callers }
 {
-    let (keeper, callers) = SharedKeeper::<L, Ticker>::open(alloc, prepared).ok()?;
-    timed(rt, &keeper, callers, work, commands)
+    match SharedKeeper::<L, Ticker>::open(alloc, prepared) {
+        Ok((keeper, mut callers)) => { timed(rt, &keeper, callers.as_mut_slice(), work, commands) }
+        Err(_) => None,
+    }
 }
 
 /// Times the work of the last caller, and of the others.
 fn timed<L: Named + Send + Sync, R: Threads + Wait + Hours + Sync>(
     rt: &R,
     keeper: &SharedKeeper<L, Ticker>,
-    mut callers: Vec<Caller<L>>,
+    callers: &mut [Caller<L>],
     work: Work,
     commands: u64,
 ) -> Option<Turn> {
-    let mut caller = callers.pop()?;
+    let (caller, others) = callers.split_last_mut()?;
     let start = Instant::now(rt).ok()?;
-    let done = done_by(rt, keeper, &mut caller, callers, work, commands);
+    let done = done_by(rt, keeper, caller, others, work, commands);
     let time = start.elapsed(rt).ok()?;
-    let last = keeper.read(rt, &mut caller);
+    let last = read_by(rt, keeper, caller);
     Some(Turn {
         time,
         count: done.count,
@@ -74,7 +76,7 @@ fn done_by<L: Named + Send + Sync, R: Threads + Wait + Sync>(
     rt: &R,
     keeper: &SharedKeeper<L, Ticker>,
     caller: &mut Caller<L>,
-    others: Vec<Caller<L>>,
+    others: &mut [Caller<L>],
     work: Work,
     commands: u64,
 ) -> Done {
@@ -132,15 +134,17 @@ fn gives<L: Named, R: Wait>(
     }
 }
 
-/// Gives `count` commands, and then adds 1 to `ended`.
+/// Gives `count` commands by the first caller of a list, and then adds 1 to `ended`.
 fn part<L: Named, R: Wait>(
     rt: &R,
     keeper: &SharedKeeper<L, Ticker>,
-    mut caller: Caller<L>,
+    callers: &mut [Caller<L>],
     count: u64,
     ended: &AtomicU64,
 ) {
-    gives(rt, keeper, &mut caller, count);
+    if let Some(caller) = callers.first_mut() {
+        gives(rt, keeper, caller, count);
+    }
     ended.fetch_add(1, Ordering::SeqCst);
 }
 
@@ -148,11 +152,12 @@ fn part<L: Named, R: Wait>(
 fn half<L: Named + Send + Sync, R: Threads + Wait + Sync>(
     rt: &R,
     keeper: &SharedKeeper<L, Ticker>,
-    one: Caller<L>,
-    two: Caller<L>,
+    callers: &mut [Caller<L>],
     commands: u64,
     ended: &AtomicU64,
 ) {
+    let middle = callers.len() / 2;
+    let (one, two) = callers.split_at_mut(middle);
     let _ = thread::join(
         rt,
         move || part(rt, keeper, one, commands / 4, ended),
@@ -160,26 +165,20 @@ fn half<L: Named + Send + Sync, R: Threads + Wait + Sync>(
     );
 }
 
-/// Gives a quarter of the commands in a thread for each of the last four callers.
+/// Gives a quarter of the commands in a thread for each of four callers.
 fn quarters<L: Named + Send + Sync, R: Threads + Wait + Sync>(
     rt: &R,
     keeper: &SharedKeeper<L, Ticker>,
-    mut callers: Vec<Caller<L>>,
+    callers: &mut [Caller<L>],
     commands: u64,
     ended: &AtomicU64,
 ) {
-    let (Some(one), Some(two), Some(three), Some(four)) = (
-        callers.pop(),
-        callers.pop(),
-        callers.pop(),
-        callers.pop(),
-    ) else {
-        return;
-    };
+    let middle = callers.len() / 2;
+    let (two, others) = callers.split_at_mut(middle);
     let _ = thread::join(
         rt,
-        move || half(rt, keeper, one, two, commands, ended),
-        move || half(rt, keeper, three, four, commands, ended),
+        move || half(rt, keeper, two, commands, ended),
+        move || half(rt, keeper, others, commands, ended),
     );
 }
 
@@ -189,7 +188,7 @@ fn beside<L: Named + Send + Sync, R: Threads + Wait + Sync>(
     rt: &R,
     keeper: &SharedKeeper<L, Ticker>,
     caller: &mut Caller<L>,
-    others: Vec<Caller<L>>,
+    others: &mut [Caller<L>],
     commands: u64,
     is_fast: bool,
 ) -> Done {
@@ -251,6 +250,16 @@ fn read_once<L: Named, R: Wait>(
     if is_fast {
         keeper.fast_read(caller).ok()
     } else {
-        Some(keeper.read(rt, caller))
+        Some(read_by(rt, keeper, caller))
     }
+}
+
+/// Reads the page. Its callers need nothing of the read's contract.
+#[inline(always)]
+fn read_by<L: Named, R: Wait>(
+    rt: &R,
+    keeper: &SharedKeeper<L, Ticker>,
+    caller: &mut Caller<L>,
+) -> Snapshot {
+    keeper.read(rt, caller)
 }

@@ -7,7 +7,7 @@ mod pieces;
 use std::alloc::{Allocator, Global};
 use std::fmt::Debug;
 use std::process::Abort;
-use tk_clock::Command;
+use tk_clock::{Command, Refusal};
 use tk_keeper::Timekeeper;
 use tk_test_support::{OPENED_TIME, nanosecond_counter};
 
@@ -25,11 +25,20 @@ fn opened<A: Allocator + Copy>(rt: &impl Abort, alloc: A) -> Timekeeper<A> {
 /// at reading 10^9.
 fn steered<A: Allocator + Copy>(rt: &impl Abort, alloc: A) -> Timekeeper<A> {
     let mut keeper = opened(rt, alloc);
-    let faster = keeper.apply(0, 0, Command::Freq(65_536_000));
+    let faster = applies(&mut keeper, 0, Command::Freq(65_536_000));
     assert_same(rt, &faster, &Ok(1));
-    let slower = keeper.apply(0, 1_000_000_000, Command::Freq(-32_768_000));
+    let slower = applies(&mut keeper, 1_000_000_000, Command::Freq(-32_768_000));
     assert_same(rt, &slower, &Ok(2));
     keeper
+}
+
+/// Applies a command. It states nothing of the journal, to keep the proof of each test short.
+fn applies<A: Allocator + Copy>(
+    keeper: &mut Timekeeper<A>,
+    reading: u64,
+    cmd: Command,
+) -> Result<u64, Refusal> {
+    keeper.apply(0, reading, cmd)
 }
 
 /// Returns a list of `many` times the same number.

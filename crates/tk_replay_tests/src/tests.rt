@@ -5,7 +5,6 @@ mod script;
 
 use std::fmt::{Debug, Display};
 use std::process::Abort;
-use std::test::Fail;
 
 /// Stops the test if `found` is not equal to `wanted`. It is a separate call to keep the proof of
 /// each test short.
@@ -14,15 +13,11 @@ fn assert_same<T: PartialEq + Debug>(rt: &impl Abort, found: &T, wanted: &T) {
 }
 
 /// Stops the test if the texts of the items, each in its own line, are not equal to `wanted`.
-fn assert_lines<T: Display>(
-    rt: &(impl Abort + AllocGlobal),
-    items: &[T],
-    wanted: &str,
-) -> Result<(), Fail> {
+fn assert_lines<T: Display>(rt: &(impl Abort + AllocGlobal), items: &[T], wanted: &str) {
     let mut lines = String::new(rt.alloc());
     for item in items {
-        lines.push_str(format!(in rt.alloc(); "{item}\n")?.as_str())?;
+        let line = format!(in rt.alloc(); "{item}\n").expect(rt, "memory");
+        lines.push_str(line.as_str()).expect(rt, "memory");
     }
     assert_same(rt, &lines.as_str(), &wanted);
-    Ok(())
 }

@@ -44,14 +44,23 @@ pub(crate) struct Asked<L: Named> {
 /// Opens clocks on a stopped counter for two callers, and prints their times.
 pub(crate) fn run<R: Threads + Wait + Print + Sync>(rt: &R, alloc: Global) -> Result<(), Stop> {
     let stopped = Stopped::<1_000_000>;
-    match rises(rt, alloc, &stopped)? {
+    tell(rt, "two threads", rises(rt, alloc, &stopped)?)
+}
+
+/// Prints two times, or that there are none because another caller gave a command.
+pub(crate) fn tell(
+    rt: &impl Print,
+    who: &str,
+    times: Option<(Timespec, Timespec)>,
+) -> Result<(), Stop> {
+    match times {
         Some((first, then)) => {
             println!(rt;
-                "two threads: {}.{:09}, then {}.{:09}",
+                "{who}: {}.{:09}, then {}.{:09}",
                 first.sec, first.nsec, then.sec, then.nsec
             )?;
         }
-        None => println!(rt; "two threads: other commands came between")?,
+        None => println!(rt; "{who}: other commands came between")?,
     }
     Ok(())
 }

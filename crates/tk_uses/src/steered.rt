@@ -1,12 +1,14 @@
 //! One thread asks for MONOTONIC, lets a second begin late as the owner of a discipline, and asks
 //! again: the later answer isn't smaller. The keeper stays open.
-ghost use Rattle.std.specs.Prelude.{◌≡◌, ◌≤ℤ◌, IfOk, IfSome};
+ghost use Rattle.std.specs.Prelude.{◌≡◌, ◌≤ℤ◌, length, IfOk, IfSome};
 ghost use Rattle.tk_clock.specs.Time.{nanoseconds};
+ghost use Rattle.tk_shared.specs.Callers.{IsKnownBy};
 ghost use Rattle.tk_shared.specs.Opening.{IsNamed};
+ghost use Rattle.tk_shared_steered.specs.Readings.{AreAtReadings};
 ghost use Rattle.tk_uses.specs.InTurn.{HaveRisen};
 ghost use Rattle.tk_uses.specs.Steered.{IsTrustedThroughout};
 
-use crate::in_turn::{Asked, Stopped, ask, prepared};
+use crate::in_turn::{Stopped, ask, prepared, tell};
 use crate::stop::Stop;
 use std::alloc::Global;
 use std::marker::Brand;
@@ -22,16 +24,7 @@ const HZ: u32 = 250;
 /// Opens clocks on a stopped counter for the owner of a discipline, and prints its times.
 pub(crate) fn run<R: Wait + Print>(rt: &R, alloc: Global) -> Result<(), Stop> {
     let stopped = Stopped::<1_000_000>;
-    match never_falls(rt, alloc, &stopped)? {
-        Some((first, then)) => {
-            println!(rt;
-                "one owner: {}.{:09}, then {}.{:09}",
-                first.sec, first.nsec, then.sec, then.nsec
-            )?;
-        }
-        None => println!(rt; "one owner: other commands came between")?,
-    }
-    Ok(())
+    tell(rt, "one owner", never_falls(rt, alloc, &stopped)?)
 }
 
 /// Returns MONOTONIC before a discipline is opened and after a second was let begin late. The
@@ -86,12 +79,7 @@ fn second_begins<L: Named, C: Counter, S: SharedCounter, R: Wait>(
         HaveRisen S.answers counter.now owner.seen.opening t.0 t.1)) }
 {
     let first = ask(rt, keeper, owner, counter)?;
-    let mut steering = match SharedSteering::open(rt, keeper, first.caller, HZ) {
-        Ok(steering) => steering,
-        Err(unsteered) => return Err(Stop::Steering(unsteered.fault)),
-    };
-    steering.begin_late(rt, keeper)?;
-    let (caller, _) = steering.into_parts();
+    let caller = begun(rt, keeper, first.caller)?;
     let count = caller.front();
     let mut later = ask(rt, keeper, caller, counter)?;
     keeper.fold(rt, &mut later.caller, count);
@@ -100,4 +88,25 @@ fn second_begins<L: Named, C: Counter, S: SharedCounter, R: Wait>(
     }
     now_never_falls::<S>();
     Ok(Some((first.time, later.time)))
+}
+
+/// Opens a discipline, lets a second begin late, and returns the caller. All commands that it has
+/// seen were given at readings of the counter.
+fn begun<L: Named, C: Counter, R: Wait>(
+    rt: &R,
+    keeper: &SharedKeeper<L, C>,
+    owner: Caller<L>,
+) -> Result<Caller<L>, Stop>
+    // the caller knows all that it knew
+    ensures known { IfOk result (λ begun. IsKnownBy owner begun) }
+    ensures readings { IfOk result (λ begun.
+        AreAtReadings C.answers_after begun 0 (length begun.seen.entries)) }
+{
+    let mut steering = match SharedSteering::open(rt, keeper, owner, HZ) {
+        Ok(steering) => steering,
+        Err(unsteered) => return Err(Stop::Steering(unsteered.fault)),
+    };
+    steering.begin_late(rt, keeper)?;
+    let (caller, _) = steering.into_parts();
+    Ok(caller)
 }

@@ -83,10 +83,7 @@ fn works<L: Named + Send + Sync, C: Counter, R: Threads + Wait + Sync>(
         Ok(opened) => opened,
         Err(fault) => return Err(Stop::Open(fault.error)),
     };
-    let (Some(one), Some(two), Some(three)) = (callers.pop(), callers.pop(), callers.pop()) else {
-        return Err(Stop::Open(OpenError::Count));
-    };
-    all_work(rt, &keeper, machine, one, two, three)
+    all_work(rt, &keeper, machine, callers.as_mut_slice())
 }
 
 /// Lets the first caller give commands while the other two ask for the time.
@@ -94,25 +91,42 @@ fn all_work<L: Named + Send + Sync, C: Counter, R: Threads + Wait + Sync>(
     rt: &R,
     keeper: &SharedKeeper<L, C>,
     machine: &Machine,
-    mut one: Caller<L>,
-    mut two: Caller<L>,
-    mut three: Caller<L>,
+    callers: &mut [Caller<L>],
 ) -> Result<Work, Stop> {
-    let (commands, (fell, also)) = thread::join(
+    let Some((one, others)) = callers.split_first_mut() else {
+        return Err(Stop::Open(OpenError::Count));
+    };
+    let (commands, fell) = thread::join(
         rt,
-        move || steers(rt, keeper, &mut one),
-        move || {
-            thread::join(
-                rt,
-                move || asks(rt, keeper, &mut two, machine),
-                move || asks(rt, keeper, &mut three, machine),
-            )
-        },
+        move || steers(rt, keeper, one),
+        move || both_ask(rt, keeper, machine, others),
     );
     Ok(Work {
         commands: commands?,
-        fell: fell?.wrapping_add(also?),
+        fell: fell?,
     })
+}
+
+/// Lets two callers ask at once, and returns the number of all their answers that were below the
+/// one before.
+fn both_ask<L: Named + Send + Sync, C: Counter, R: Threads + Wait + Sync>(
+    rt: &R,
+    keeper: &SharedKeeper<L, C>,
+    machine: &Machine,
+    callers: &mut [Caller<L>],
+) -> Result<u64, Stop> {
+    let Some((one, others)) = callers.split_first_mut() else {
+        return Err(Stop::Open(OpenError::Count));
+    };
+    let Some(two) = others.first_mut() else {
+        return Err(Stop::Open(OpenError::Count));
+    };
+    let (fell, also) = thread::join(
+        rt,
+        move || asks(rt, keeper, one, machine),
+        move || asks(rt, keeper, two, machine),
+    );
+    Ok(fell?.wrapping_add(also?))
 }
 
 /// Sets the clocks to run faster and slower in turn, and returns the number of accepted commands.

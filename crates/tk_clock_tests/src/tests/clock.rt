@@ -13,22 +13,23 @@ mod steering;
 mod uptimes;
 mod words;
 
-use super::{are_distinct, assert_same, assert_same_at, time};
+use super::{
+    applies, are_distinct, assert_same, assert_same_at, desc_of, nanosecond_counter, opened_at,
+    time,
+};
 use std::process::Abort;
-use std::test::Fail;
 use tk_clock::{Clock, ClockId, Command, Refusal, Timespec};
 use tk_counter::CounterDesc;
-use tk_test_support::nanosecond_counter;
 
 /// Returns a counter of 4,194,304 nanoseconds a cycle, with 64-bit readings.
-fn wide_counter() -> Result<CounterDesc, Fail> {
-    Ok(CounterDesc::new(64, 4_194_304, 0)?)
+fn wide_counter(rt: &impl Abort) -> CounterDesc {
+    desc_of(rt, 64, 4_194_304, 0)
 }
 
 /// Returns clocks of `nanosecond_counter`, opened at reading 0, with REALTIME at 1,700,000,000 s.
-fn opened() -> Result<Clock, Fail> {
-    let desc = nanosecond_counter()?;
-    Ok(Clock::open(desc, 0, time(1_700_000_000, 0))?)
+fn opened(rt: &impl Abort) -> Clock {
+    let desc = nanosecond_counter(rt);
+    opened_at(rt, desc, 0, time(1_700_000_000, 0))
 }
 
 /// Applies a command and checks its answer. A refused command must leave the words unchanged.

@@ -6,27 +6,45 @@ mod random;
 mod refusals;
 mod values;
 
-ghost use Rattle.std.specs.Prelude.{◌≡◌, vec_len, IfOk};
-
-use super::{assert_same, assert_same_at, time};
-use std::alloc::{AllocError, Global};
+use super::{applies, assert_same, assert_same_at, desc_of, opened_at, time};
+use std::alloc::Global;
 use std::process::Abort;
-use std::test::Fail;
 use tk_clock::{Clock, ClockId, Snapshot};
-use tk_counter::CounterDesc;
 use tk_lanes::{BatchError, lane_batch, plain_batch};
 
 /// Returns clocks of a 48-bit counter of one nanosecond a cycle, opened at reading 1000.
-fn opened() -> Result<Clock, Fail> {
-    let desc = CounterDesc::new(48, 16_777_216, 24)?;
-    Ok(Clock::open(desc, 1_000, time(1_700_000_000, 0))?)
+fn opened(rt: &impl Abort) -> Clock {
+    let desc = desc_of(rt, 48, 16_777_216, 24);
+    opened_at(rt, desc, 1_000, time(1_700_000_000, 0))
 }
 
 /// Returns a list of `n` sevens. An item that stays 7 was not written.
-fn sevens(alloc: Global, n: usize) -> Result<Vec<u64>, AllocError>
-    ensures { IfOk result (λ v. vec_len v ≡ n) }
-{
-    vec![in alloc; 7u64; n]
+fn sevens(rt: &impl Abort, alloc: Global, n: usize) -> Vec<u64> {
+    Vec::from_elem(alloc, 7, n).expect(rt, "memory")
+}
+
+/// Converts stamps one after the other. `out` must have as many items as `stamps`.
+fn by_plain(
+    rt: &impl Abort,
+    snapshot: &Snapshot,
+    clock: ClockId,
+    stamps: &[u64],
+    out: &mut [u64],
+) -> Result<(), BatchError> {
+    assert!(rt; stamps.len() == out.len());
+    plain_batch(snapshot, clock, stamps, out)
+}
+
+/// Converts stamps eight at a time. `out` must have as many items as `stamps`.
+fn by_lanes(
+    rt: &impl Abort,
+    snapshot: &Snapshot,
+    clock: ClockId,
+    stamps: &[u64],
+    out: &mut [u64],
+) -> Result<(), BatchError> {
+    assert!(rt; stamps.len() == out.len());
+    lane_batch(snapshot, clock, stamps, out)
 }
 
 /// Checks that both calls return this answer and leave these values.
@@ -38,16 +56,22 @@ fn converts(
     stamps: &[u64],
     answer: Result<(), BatchError>,
     values: &[u64],
-) -> Result<(), Fail> {
-    let mut plain = sevens(alloc, stamps.len())?;
-    let returned = plain_batch(snapshot, clock, stamps, plain.as_mut_slice());
-    assert_same(rt, &(clock, returned), &(clock, answer));
-    assert_same(rt, &(clock, plain.as_slice()), &(clock, values));
-    let mut lanes = sevens(alloc, stamps.len())?;
-    let returned = lane_batch(snapshot, clock, stamps, lanes.as_mut_slice());
-    assert_same(rt, &(clock, returned), &(clock, answer));
-    assert_same(rt, &(clock, lanes.as_slice()), &(clock, values));
-    Ok(())
+) {
+    let mut plain = sevens(rt, alloc, stamps.len());
+    let returned = by_plain(rt, snapshot, clock, stamps, plain.as_mut_slice());
+    has_converted(rt, clock, (returned, plain.as_slice()), (answer, values));
+    let mut lanes = sevens(rt, alloc, stamps.len());
+    let returned = by_lanes(rt, snapshot, clock, stamps, lanes.as_mut_slice());
+    has_converted(rt, clock, (returned, lanes.as_slice()), (answer, values));
+}
+
+/// The answer of a call, and the values that it left.
+type Converted<'a> = (Result<(), BatchError>, &'a [u64]);
+
+/// Checks the answer of a call and the values that it left.
+fn has_converted(rt: &impl Abort, clock: ClockId, found: Converted<'_>, wanted: Converted<'_>) {
+    assert_same_at(rt, &clock, &found.0, &wanted.0);
+    assert_same_at(rt, &clock, &found.1, &wanted.1);
 }
 
 /// Checks that both calls agree, and returns their answer.
@@ -57,12 +81,12 @@ fn agree(
     snapshot: &Snapshot,
     clock: ClockId,
     stamps: &[u64],
-) -> Result<Result<(), BatchError>, Fail> {
-    let mut plain = sevens(alloc, stamps.len())?;
-    let answer = plain_batch(snapshot, clock, stamps, plain.as_mut_slice());
-    let mut lanes = sevens(alloc, stamps.len())?;
-    let returned = lane_batch(snapshot, clock, stamps, lanes.as_mut_slice());
-    assert_same(rt, &(clock, returned), &(clock, answer));
-    assert_same(rt, &(clock, lanes.as_slice()), &(clock, plain.as_slice()));
-    Ok(answer)
+) -> Result<(), BatchError> {
+    let mut plain = sevens(rt, alloc, stamps.len());
+    let answer = by_plain(rt, snapshot, clock, stamps, plain.as_mut_slice());
+    let mut lanes = sevens(rt, alloc, stamps.len());
+    let returned = by_lanes(rt, snapshot, clock, stamps, lanes.as_mut_slice());
+    let (found, wanted) = (lanes.as_slice(), plain.as_slice());
+    has_converted(rt, clock, (returned, found), (answer, wanted));
+    answer
 }

@@ -1,8 +1,8 @@
 //! Makes clocks of random journals, which are the same in each run.
 
-use super::time;
+use super::{desc_of, opened_at, time};
 use std::alloc::Global;
-use std::test::Fail;
+use std::process::Abort;
 use tk_clock::{Clock, Command};
 use tk_counter::CounterDesc;
 use tk_test_support::{OPENED_TIME, next_random};
@@ -14,20 +14,20 @@ pub(super) fn drawn(seed: &mut u64) -> u64 {
 }
 
 /// Returns this many random numbers, which follow `seed`.
-pub(super) fn numbers(alloc: Global, mut seed: u64, many: usize) -> Result<Vec<u64>, Fail> {
-    let mut list = vec![in alloc; 0; many]?;
+pub(super) fn numbers(rt: &impl Abort, alloc: Global, mut seed: u64, many: usize) -> Vec<u64> {
+    let mut list = Vec::from_elem(alloc, 0, many).expect(rt, "memory");
     for item in list.iter_mut() {
         *item = drawn(&mut seed);
     }
-    Ok(list)
+    list
 }
 
 /// Makes a counter from a number, with 8 to 64 bits and any shift.
-fn counter_of(number: u64) -> Result<CounterDesc, Fail> {
+fn counter_of(rt: &impl Abort, number: u64) -> CounterDesc {
     let bits = ((number >> 8) % 57) as u32;
     let shift = ((number >> 16) % 33) as u32;
     let mult = ((number >> 24) % 3_869_000_000) as u32;
-    Ok(CounterDesc::new(bits.wrapping_add(8), mult.max(256), shift)?)
+    desc_of(rt, bits.wrapping_add(8), mult.max(256), shift)
 }
 
 /// Makes a command from a number. All kinds are about equally frequent.
@@ -50,10 +50,10 @@ fn command_of(number: u64) -> Command {
 }
 
 /// Makes clocks from a number, with any counter and after up to 15 commands.
-pub(super) fn clock_of(mut seed: u64) -> Result<Clock, Fail> {
-    let desc = counter_of(seed)?;
+pub(super) fn clock_of(rt: &impl Abort, mut seed: u64) -> Clock {
+    let desc = counter_of(rt, seed);
     let mask = desc.mask();
-    let mut clock = Clock::open(desc, seed & mask, OPENED_TIME)?;
+    let mut clock = opened_at(rt, desc, seed & mask, OPENED_TIME);
     for _ in 0..seed % 16 {
         seed = next_random(seed);
         let last = clock.snapshot(0).last();
@@ -61,5 +61,5 @@ pub(super) fn clock_of(mut seed: u64) -> Result<Clock, Fail> {
         // a refused command changes nothing
         let _ = clock.apply(reading, command_of(seed));
     }
-    Ok(clock)
+    clock
 }

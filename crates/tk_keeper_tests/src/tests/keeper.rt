@@ -17,10 +17,10 @@ mod steering;
 mod times;
 mod traces;
 
-use super::{ABOVE, assert_same, opened, put, steered};
+use super::{ABOVE, applies, assert_same, opened, put, steered};
 use std::alloc::Allocator;
 use std::process::Abort;
-use tk_clock::{ClockId, Command, Refusal, Snapshot, Timespec};
+use tk_clock::{ClockId, Command, Entry, Refusal, Snapshot, Timespec};
 use tk_keeper::{FrontError, Timekeeper};
 use tk_test_support::{OPENED_REAL, OPENED_WORDS};
 
@@ -76,9 +76,46 @@ fn time(sec: i64, nsec: u32) -> Timespec {
     Timespec { sec, nsec }
 }
 
+/// Returns the snapshot of the clocks. It states nothing of the journal, to keep the proof of each
+/// test short, and so do the calls below.
+fn snapshot_of<A: Allocator + Copy>(keeper: &Timekeeper<A>) -> Snapshot {
+    keeper.snapshot()
+}
+
+/// Returns the words of the snapshot.
+fn words_of<A: Allocator + Copy>(keeper: &Timekeeper<A>) -> [u64; 10] {
+    snapshot_of(keeper).words()
+}
+
+/// Returns the number of accepted commands.
+fn length<A: Allocator + Copy>(keeper: &Timekeeper<A>) -> usize {
+    keeper.len()
+}
+
 /// Returns the number of accepted commands, and the words of the snapshot.
 fn length_and_words<A: Allocator + Copy>(keeper: &Timekeeper<A>) -> (usize, [u64; 10]) {
-    (keeper.len(), keeper.snapshot().words())
+    (length(keeper), words_of(keeper))
+}
+
+/// Returns the number of accepted commands, the words of the snapshot, and the number of commands
+/// that need no memory.
+fn parts<A: Allocator + Copy>(keeper: &Timekeeper<A>) -> ((usize, [u64; 10]), usize) {
+    (length_and_words(keeper), keeper.spare())
+}
+
+/// Returns the entry of a command.
+fn entry_of<A: Allocator + Copy>(keeper: &Timekeeper<A>, number: u64) -> Option<Entry> {
+    keeper.entry(number)
+}
+
+/// Folds the journal, and checks the number of folded entries.
+fn folds(rt: &impl Abort, keeper: &mut Timekeeper, keep: u64, folded: u64) {
+    assert_same(rt, &keeper.fold(keep), &folded);
+}
+
+/// Asks for capacity.
+fn reserves<A: Allocator + Copy>(keeper: &mut Timekeeper<A>, extra: usize) -> Result<(), Refusal> {
+    keeper.reserve(extra)
 }
 
 /// Applies a command. If an allocation failed, checks that nothing changed, and applies it once
@@ -89,13 +126,13 @@ fn applied<A: Allocator + Copy>(
     reading: u64,
     cmd: Command,
 ) -> Result<u64, Refusal> {
-    let before = (length_and_words(keeper), keeper.spare());
-    let answer = keeper.apply(0, reading, cmd);
+    let before = parts(keeper);
+    let answer = applies(keeper, reading, cmd);
     if answer != Err(Refusal::Memory) {
         return answer;
     }
-    assert_same(rt, &(length_and_words(keeper), keeper.spare()), &before);
-    keeper.apply(0, reading, cmd)
+    assert_same(rt, &parts(keeper), &before);
+    applies(keeper, reading, cmd)
 }
 
 /// Applies `many` updates, `step` cycles after each other, and checks their numbers.
@@ -127,11 +164,12 @@ fn answers(
 
 /// Checks the time of MONOTONIC at a reading.
 fn reads_monotonic(rt: &impl Abort, keeper: &Timekeeper, reading: u64, value: Timespec) {
-    reads(
-        rt,
-        &keeper.snapshot(),
-        &[(ClockId::Monotonic, reading, value)],
-    );
+    reads_now(rt, keeper, &[(ClockId::Monotonic, reading, value)]);
+}
+
+/// Reads clocks after the last command, and checks their times.
+fn reads_now(rt: &impl Abort, keeper: &Timekeeper, values: &[(ClockId, u64, Timespec)]) {
+    reads(rt, &snapshot_of(keeper), values);
 }
 
 /// Checks that a front has no snapshot, and the error.

@@ -5,7 +5,7 @@ mod costly;
 mod long;
 
 use self::long::LONG;
-use super::{ABOVE, assert_same, numbers, opened, put, repeated, steered};
+use super::{ABOVE, applies, assert_same, numbers, opened, put, repeated, steered};
 use std::alloc::{Allocator, Global};
 use std::marker::{Send, Sync};
 use std::process::Abort;
@@ -62,6 +62,35 @@ fn asked<A: Allocator + Copy + Send + Sync, B: Allocator>(
     trace_all(alloc, rt, keeper, fronts, stamps, ClockId::Monotonic)
 }
 
+/// Returns the result of `trace_all_into` on the memory of the lists.
+fn filled(
+    rt: &(impl Threads + Sync + Abort),
+    keeper: &Timekeeper,
+    lists: &mut Lists,
+) -> Result<(), TraceError> {
+    let fronts = lists.fronts.as_slice();
+    let stamps = lists.stamps.as_slice();
+    assert!(rt; fronts.len() == stamps.len() && stamps.len() == lists.out.len());
+    let out = lists.out.as_mut_slice();
+    trace_all_into(rt, keeper, fronts, stamps, ClockId::Monotonic, out)
+}
+
+/// Checks that a result of `trace_all` is that of `trace_all_into`, which wrote `out`.
+fn agree(
+    rt: &impl Abort,
+    list: &Result<Vec<u64>, TraceError>,
+    done: Result<(), TraceError>,
+    out: &[u64],
+) {
+    match list {
+        Ok(values) => {
+            let is_same = values.as_slice() == out;
+            assert_same(rt, &(done, is_same), &(Ok(()), true));
+        }
+        Err(error) => assert_same(rt, &done, &Err(*error)),
+    }
+}
+
 /// Returns the common result of both calls.
 fn answered(
     alloc: Global,
@@ -69,19 +98,9 @@ fn answered(
     keeper: &Timekeeper,
     lists: &mut Lists,
 ) -> Result<Vec<u64>, TraceError> {
-    let clock = ClockId::Monotonic;
-    let fronts = lists.fronts.as_slice();
-    let stamps = lists.stamps.as_slice();
-    assert!(rt; fronts.len() == stamps.len() && stamps.len() == lists.out.len());
-    let done = trace_all_into(rt, keeper, fronts, stamps, clock, lists.out.as_mut_slice());
+    let done = filled(rt, keeper, lists);
     let list = asked(alloc, rt, keeper, lists);
-    match &list {
-        Ok(values) => {
-            let is_same = values.as_slice() == lists.out.as_slice();
-            assert_same(rt, &(done, is_same), &(Ok(()), true));
-        }
-        Err(error) => assert_same(rt, &done, &Err(*error)),
-    }
+    agree(rt, &list, done, lists.out.as_slice());
     list
 }
 
@@ -181,24 +200,38 @@ fn fronts_up_and_down_are_converted_as_by_one_thread(rt: HostRuntime) {
     let alloc = rt.alloc();
     let keeper = steered(&rt, alloc);
     let mut lists = counted(&rt, alloc, UNEVEN);
-    let mut seed: u64 = 88_172_645_463_325_252;
-    for place in 0..UNEVEN {
-        seed = next_random(seed);
-        put(lists.fronts.as_mut_slice(), place, seed % 3);
-        put(lists.stamps.as_mut_slice(), place, (seed >> 8) % ABOVE);
-    }
-    put(lists.fronts.as_mut_slice(), UNEVEN - 1, 2);
-    put(lists.stamps.as_mut_slice(), UNEVEN - 1, 1_000_000_001);
+    scatter(lists.fronts.as_mut_slice(), lists.stamps.as_mut_slice());
     let values = answered(alloc, &rt, &keeper, &mut lists).expect(&rt, "values");
     assert_same(&rt, &values.last(), &Some(&1_000_499_964));
     for place in 0..UNEVEN {
-        let (front, stamp) = (lists.fronts.get(place), lists.stamps.get(place));
-        let (front, stamp) = ([front.copied().unwrap_or(0)], [stamp.copied().unwrap_or(0)]);
-        let mut value = [0];
-        let done = keeper.trace_into(&front, &stamp, ClockId::Monotonic, &mut value);
+        let item = (lists.fronts.get(place), lists.stamps.get(place));
+        let item = (item.0.copied(), item.1.copied());
         let found = values.get(place).copied();
-        assert_same(&rt, &(done, Some(value[0])), &(Ok(()), found));
+        assert_same(&rt, &one(&keeper, item), &(Ok(()), found));
     }
+}
+
+/// Gives `UNEVEN` items fronts up and down, and stamps of any size.
+fn scatter(fronts: &mut [u64], stamps: &mut [u64]) {
+    let mut seed: u64 = 88_172_645_463_325_252;
+    for place in 0..UNEVEN {
+        seed = next_random(seed);
+        put(fronts, place, seed % 3);
+        put(stamps, place, (seed >> 8) % ABOVE);
+    }
+    put(fronts, UNEVEN - 1, 2);
+    put(stamps, UNEVEN - 1, 1_000_000_001);
+}
+
+/// Converts a list of one item.
+fn one(
+    keeper: &Timekeeper,
+    (front, stamp): (Option<u64>, Option<u64>),
+) -> (Result<(), TraceError>, Option<u64>) {
+    let (front, stamp) = ([front.unwrap_or(0)], [stamp.unwrap_or(0)]);
+    let mut value = [0];
+    let done = keeper.trace_into(&front, &stamp, ClockId::Monotonic, &mut value);
+    (done, Some(value[0]))
 }
 
 #[test]
@@ -210,14 +243,40 @@ fn room_is_asked_for_first(rt: HostRuntime) {
         let mut lists = counted(&rt, rt.alloc(), many);
         put(lists.fronts.as_mut_slice(), 2, 7);
         heap.refuse_all();
-        let refused = asked(&heap, &rt, &keeper, &lists);
-        assert_same(&rt, &refused.err(), &Some(TraceError::Memory));
-        let empty = asked(&heap, &rt, &keeper, &none).expect(&rt, "no values");
-        assert_same(&rt, &empty.len(), &0);
+        fails(&rt, &heap, &keeper, &lists, TraceError::Memory);
+        is_empty(&rt, &heap, &keeper, &none);
         heap.grant_all();
-        let fault = asked(&heap, &rt, &keeper, &lists);
-        assert_same(&rt, &fault.err(), &Some(TraceError::Unknown { index: 2 }));
+        fails(
+            &rt,
+            &heap,
+            &keeper,
+            &lists,
+            TraceError::Unknown { index: 2 },
+        );
     }
+}
+
+/// Checks the fault of a list that is converted in memory of the heap.
+fn fails(
+    rt: &(impl Threads + Sync + Abort),
+    heap: &Heap<Global>,
+    keeper: &Timekeeper,
+    lists: &Lists,
+    fault: TraceError,
+) {
+    let answer = asked(heap, rt, keeper, lists);
+    assert_same(rt, &answer.err(), &Some(fault));
+}
+
+/// Checks that a list has no values.
+fn is_empty(
+    rt: &(impl Threads + Sync + Abort),
+    heap: &Heap<Global>,
+    keeper: &Timekeeper,
+    lists: &Lists,
+) {
+    let empty = asked(heap, rt, keeper, lists).expect(rt, "no values");
+    assert_same(rt, &empty.len(), &0);
 }
 
 #[test]

@@ -22,10 +22,11 @@ fn ticks(
         &(reading, reading),
     );
     assert_same(rt, &course.coming_second(), &coming);
+    let offset = now.real_offset();
     assert_same(
         rt,
-        &(now.real_offset(), now.tai()),
-        &(ahead * 1_000_000_000, tai),
+        &(offset / 1_000_000_000, offset % 1_000_000_000, now.tai()),
+        &(ahead, 0, tai),
     );
 }
 

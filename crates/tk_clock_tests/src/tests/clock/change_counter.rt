@@ -1,9 +1,8 @@
 use super::{
-    answers, assert_same, assert_same_at, has_words, nanosecond_counter, opened, reads, time,
-    wide_counter,
+    answers, applies, assert_same, assert_same_at, desc_of, has_words, nanosecond_counter, opened,
+    opened_at, reads, time, wide_counter,
 };
 use std::process::Abort;
-use std::test::Fail;
 use tk_clock::ClockId::{
     Boottime, Monotonic, MonotonicCoarse, MonotonicRaw, Realtime, Tai as TaiClock,
 };
@@ -12,14 +11,14 @@ use tk_clock::{Clock, Refusal, Timespec};
 use tk_counter::CounterDesc;
 
 /// Returns a counter of about 0.698 nanoseconds a cycle, with the shift 32 and 64-bit readings.
-fn fine_counter() -> Result<CounterDesc, Fail> {
-    Ok(CounterDesc::new(64, 3_000_000_000, 32)?)
+fn fine_counter(rt: &impl Abort) -> CounterDesc {
+    desc_of(rt, 64, 3_000_000_000, 32)
 }
 
 /// Returns a counter at whose slowest rate MONOTONIC runs exactly 0.8995 times as fast as
 /// MONOTONIC_RAW. At the slowest rate of `nanosecond_counter` the ratio is a little lower.
-fn exact_counter() -> Result<CounterDesc, Fail> {
-    Ok(CounterDesc::new(64, 1_000_000_000, 30)?)
+fn exact_counter(rt: &impl Abort) -> CounterDesc {
+    desc_of(rt, 64, 1_000_000_000, 30)
 }
 
 /// Changes the counter, and checks the answer. A refused change must leave the clocks unchanged.
@@ -27,10 +26,10 @@ fn changes(
     rt: &impl Abort,
     clock: &mut Clock,
     reading: u64,
-    to: (CounterDesc, u64),
+    to: &(CounterDesc, u64),
     answer: Result<(), Refusal>,
 ) {
-    let (desc, first) = to;
+    let (desc, first) = (to.0, to.1);
     let row = (reading, first);
     let before = clock.snapshot(0);
     assert_same_at(
@@ -49,11 +48,17 @@ fn changes(
 }
 
 #[test]
-fn a_finer_counter_and_the_first_one_again(rt: HostRuntime) -> Result<(), Fail> {
-    let mut clock = opened()?;
+fn a_finer_counter_and_the_first_one_again(rt: HostRuntime) {
+    let mut clock = opened(&rt);
     answers(&rt, &mut clock, 0, Freq(32_768_000), Ok(()));
     answers(&rt, &mut clock, 10, Tai(37), Ok(()));
-    changes(&rt, &mut clock, 1_000_000_007, (fine_counter()?, 5), Ok(()));
+    changes(
+        &rt,
+        &mut clock,
+        1_000_000_007,
+        &(fine_counter(&rt), 5),
+        Ok(()),
+    );
     has_words(
         &rt,
         &clock,
@@ -81,8 +86,8 @@ fn a_finer_counter_and_the_first_one_again(rt: HostRuntime) -> Result<(), Fail> 
     ] {
         reads(&rt, &clock, id, 5, value);
     }
-    let last = (nanosecond_counter()?, 4_294_967_295);
-    changes(&rt, &mut clock, 1_000_005, last, Ok(()));
+    let last = (nanosecond_counter(&rt), 4_294_967_295);
+    changes(&rt, &mut clock, 1_000_005, &last, Ok(()));
     has_words(
         &rt,
         &clock,
@@ -108,16 +113,15 @@ fn a_finer_counter_and_the_first_one_again(rt: HostRuntime) -> Result<(), Fail> 
     ] {
         reads(&rt, &clock, id, reading, value);
     }
-    Ok(())
 }
 
 #[test]
-fn from_8_bits_to_64_bits(rt: HostRuntime) -> Result<(), Fail> {
+fn from_8_bits_to_64_bits(rt: HostRuntime) {
     // 256 nanoseconds a cycle
-    let narrow = CounterDesc::new(8, 256, 0)?;
-    let mut clock = Clock::open(narrow, 200, time(0, 0))?;
+    let narrow = desc_of(&rt, 8, 256, 0);
+    let mut clock = opened_at(&rt, narrow, 200, time(0, 0));
     answers(&rt, &mut clock, 255, Update, Ok(()));
-    changes(&rt, &mut clock, 100, (wide_counter()?, u64::MAX), Ok(()));
+    changes(&rt, &mut clock, 100, &(wide_counter(&rt), u64::MAX), Ok(()));
     for (reading, nanos) in [
         (u64::MAX, 39_936),
         (0, 4_234_240),
@@ -126,35 +130,33 @@ fn from_8_bits_to_64_bits(rt: HostRuntime) -> Result<(), Fail> {
     ] {
         reads(&rt, &clock, Monotonic, reading, time(0, nanos));
     }
-    Ok(())
 }
 
 #[test]
-fn a_smaller_shift_cuts_the_fraction(rt: HostRuntime) -> Result<(), Fail> {
-    let mut clock = Clock::open(fine_counter()?, 0, time(5, 0))?;
-    let halves = (CounterDesc::new(40, 1_000, 1)?, 3);
-    let wholes = (CounterDesc::new(40, 1_000, 0)?, 9);
+fn a_smaller_shift_cuts_the_fraction(rt: HostRuntime) {
+    let mut clock = opened_at(&rt, fine_counter(&rt), 0, time(5, 0));
+    let halves = (desc_of(&rt, 40, 1_000, 1), 3);
+    let wholes = (desc_of(&rt, 40, 1_000, 0), 9);
     // 7 cycles last 4.889 nanoseconds, of which halves are kept
-    changes(&rt, &mut clock, 7, halves, Ok(()));
+    changes(&rt, &mut clock, 7, &halves, Ok(()));
     assert_same(&rt, &clock.snapshot(0).frac(), &9);
     assert_same(&rt, &clock.snapshot(0).raw_frac(), &9);
     reads(&rt, &clock, Monotonic, 3, time(0, 4));
     reads(&rt, &clock, Monotonic, 4, time(0, 504));
     // of 504.5 nanoseconds only whole ones are kept
-    changes(&rt, &mut clock, 4, wholes, Ok(()));
+    changes(&rt, &mut clock, 4, &wholes, Ok(()));
     assert_same(&rt, &clock.snapshot(0).frac(), &504);
     reads(&rt, &clock, Monotonic, 9, time(0, 504));
-    Ok(())
 }
 
 #[test]
-fn a_change_asleep_brings_nothing_forward(rt: HostRuntime) -> Result<(), Fail> {
-    let mut clock = opened()?;
+fn a_change_asleep_brings_nothing_forward(rt: HostRuntime) {
+    let mut clock = opened(&rt);
     answers(&rt, &mut clock, 1_000, Suspend, Ok(()));
-    let to = (fine_counter()?, 77);
-    changes(&rt, &mut clock, 4_294_967_296, to, Err(Refusal::Invalid));
+    let to = (fine_counter(&rt), 77);
+    changes(&rt, &mut clock, 4_294_967_296, &to, Err(Refusal::Invalid));
     // the reading is behind the suspension's
-    changes(&rt, &mut clock, 5, to, Ok(()));
+    changes(&rt, &mut clock, 5, &to, Ok(()));
     assert_same(&rt, &clock.snapshot(0).last(), &77);
     assert!(rt; clock.snapshot(0).asleep());
     reads(&rt, &clock, Monotonic, 1_000_000, time(0, 1_000));
@@ -167,73 +169,70 @@ fn a_change_asleep_brings_nothing_forward(rt: HostRuntime) -> Result<(), Fail> {
     ] {
         reads(&rt, &clock, id, 200, value);
     }
-    Ok(())
 }
 
 /// Returns clocks of `nanosecond_counter` at reading 0, after a suspension of this length.
-fn slept(real: Timespec, tai: i64, away: Timespec) -> Result<Clock, Fail> {
-    let mut clock = Clock::open(nanosecond_counter()?, 0, real)?;
-    clock.apply(0, Tai(tai))?;
-    clock.apply(0, Suspend)?;
-    clock.apply(0, Resume(away))?;
-    Ok(clock)
+fn slept(rt: &impl Abort, real: Timespec, tai: i64, away: Timespec) -> Clock {
+    let mut clock = opened_at(rt, nanosecond_counter(rt), 0, real);
+    applies(rt, &mut clock, 0, Tai(tai));
+    applies(rt, &mut clock, 0, Suspend);
+    applies(rt, &mut clock, 0, Resume(away));
+    clock
 }
 
 #[test]
-fn a_change_at_each_limit_is_refused(rt: HostRuntime) -> Result<(), Fail> {
+fn a_change_at_each_limit_is_refused(rt: HostRuntime) {
     // 1,000 nanoseconds before the end of the clocks
     let away = time(9_223_372_035, 999_999_000);
-    let mut boottime = slept(time(0, 0), 0, away)?;
-    boottime.apply(0, SetTime(time(0, 0)))?;
-    let realtime = slept(time(7, 0), 0, time(9_223_372_028, 999_999_000))?;
-    let tai = slept(time(0, 0), 100_000, time(9_223_272_035, 999_999_000))?;
-    let to = (fine_counter()?, 0);
+    let mut boottime = slept(&rt, time(0, 0), 0, away);
+    applies(&rt, &mut boottime, 0, SetTime(time(0, 0)));
+    let realtime = slept(&rt, time(7, 0), 0, time(9_223_372_028, 999_999_000));
+    let tai = slept(&rt, time(0, 0), 100_000, time(9_223_272_035, 999_999_000));
+    let to = (fine_counter(&rt), 0);
     for mut clock in [boottime, realtime, tai] {
-        changes(&rt, &mut clock, 1_000, to, Err(Refusal::Range));
-        changes(&rt, &mut clock, 999, to, Ok(()));
+        changes(&rt, &mut clock, 1_000, &to, Err(Refusal::Range));
+        changes(&rt, &mut clock, 999, &to, Ok(()));
     }
-    let mut monotonic = Clock::open(wide_counter()?, 0, time(0, 0))?;
-    let to = (nanosecond_counter()?, 0);
+    let mut monotonic = opened_at(&rt, wide_counter(&rt), 0, time(0, 0));
+    let to = (nanosecond_counter(&rt), 0);
     let (last, past) = (225_563_049_316, 225_563_049_317);
-    changes(&rt, &mut monotonic, past, to, Err(Refusal::Range));
-    changes(&rt, &mut monotonic, last, to, Ok(()));
+    changes(&rt, &mut monotonic, past, &to, Err(Refusal::Range));
+    changes(&rt, &mut monotonic, last, &to, Ok(()));
     let most = time(946_079_999, 998_296_064);
     reads(&rt, &monotonic, Monotonic, 0, most);
-    Ok(())
 }
 
 /// Returns clocks of `nanosecond_counter` that have run at their slowest rate since the reading 0.
-fn slowed() -> Result<Clock, Fail> {
-    let mut clock = opened()?;
-    clock.apply(0, Freq(-32_768_000))?;
-    clock.apply(0, Tick(9_000))?;
-    Ok(clock)
+fn slowed(rt: &impl Abort) -> Clock {
+    let mut clock = opened(rt);
+    applies(rt, &mut clock, 0, Freq(-32_768_000));
+    applies(rt, &mut clock, 0, Tick(9_000));
+    clock
 }
 
 #[test]
-fn raw_may_be_too_far_ahead_for_another_counter(rt: HostRuntime) -> Result<(), Fail> {
-    let mut clock = slowed()?;
-    let exact = (exact_counter()?, 0);
+fn raw_may_be_too_far_ahead_for_another_counter(rt: HostRuntime) {
+    let mut clock = slowed(&rt);
+    let exact = (exact_counter(&rt), 0);
     // this counter's slowest rate is lower
-    let slower = (CounterDesc::new(64, 259, 0)?, 0);
-    changes(&rt, &mut clock, 1_000, exact, Err(Refusal::Range));
-    changes(&rt, &mut clock, 1_000, slower, Ok(()));
+    let slower = (desc_of(&rt, 64, 259, 0), 0);
+    changes(&rt, &mut clock, 1_000, &exact, Err(Refusal::Range));
+    changes(&rt, &mut clock, 1_000, &slower, Ok(()));
     reads(&rt, &clock, Monotonic, 0, time(0, 899));
     reads(&rt, &clock, MonotonicRaw, 0, time(0, 1_000));
 
     // one cycle at the usual rate is enough
-    let mut clock = slowed()?;
+    let mut clock = slowed(&rt);
     answers(&rt, &mut clock, 1_000_000, Freq(0), Ok(()));
     answers(&rt, &mut clock, 1_000_000, Tick(10_000), Ok(()));
-    changes(&rt, &mut clock, 1_000_000, exact, Err(Refusal::Range));
-    changes(&rt, &mut clock, 1_000_001, exact, Ok(()));
-    Ok(())
+    changes(&rt, &mut clock, 1_000_000, &exact, Err(Refusal::Range));
+    changes(&rt, &mut clock, 1_000_001, &exact, Ok(()));
 }
 
 #[test]
-fn the_first_test_that_fails_decides(rt: HostRuntime) -> Result<(), Fail> {
-    let mut clock = slowed()?;
-    let narrow = CounterDesc::new(8, 1_000_000, 0)?;
+fn the_first_test_that_fails_decides(rt: HostRuntime) {
+    let mut clock = slowed(&rt);
+    let narrow = desc_of(&rt, 8, 1_000_000, 0);
     for (reading, first, refusal) in [
         (4_294_967_296, 0, Refusal::Invalid),
         (1_000, 256, Refusal::Invalid),
@@ -241,36 +240,35 @@ fn the_first_test_that_fails_decides(rt: HostRuntime) -> Result<(), Fail> {
         (2_147_483_648, 255, Refusal::Behind),
         (1_000, 255, Refusal::Range),
     ] {
-        changes(&rt, &mut clock, reading, (narrow, first), Err(refusal));
+        changes(&rt, &mut clock, reading, &(narrow, first), Err(refusal));
     }
-    Ok(())
 }
 
 /// Changes the counter 1,000 times, to these counters in turn. The clocks run `turn + 10` cycles
 /// before each change.
-fn change_in_turn(clock: &mut Clock, counters: &[CounterDesc; 6]) -> Result<(), Fail> {
+fn change_in_turn(rt: &impl Abort, clock: &mut Clock, counters: &[CounterDesc; 6]) {
     for turn in 0..1_000_u64 {
         let desc = counters[(turn % 6) as usize];
-        clock.change_counter(4 * turn + 10, desc, 3 * turn + 3)?;
+        let changed = clock.change_counter(4 * turn + 10, desc, 3 * turn + 3);
+        changed.expect(rt, "a change");
     }
-    Ok(())
 }
 
 #[test]
-fn a_thousand_changes_lose_only_parts_of_a_nanosecond(rt: HostRuntime) -> Result<(), Fail> {
-    let whole = nanosecond_counter()?;
-    let half = CounterDesc::new(64, 8_388_608, 24)?;
-    let mut clock = opened()?;
-    change_in_turn(&mut clock, &[half, whole, half, whole, half, whole])?;
+fn a_thousand_changes_lose_only_parts_of_a_nanosecond(rt: HostRuntime) {
+    let whole = nanosecond_counter(&rt);
+    let half = desc_of(&rt, 64, 8_388_608, 24);
+    let mut clock = opened(&rt);
+    change_in_turn(&rt, &mut clock, &[half, whole, half, whole, half, whole]);
     // 254,500 cycles of a nanosecond, and 255,000 of half a nanosecond
     reads(&rt, &clock, Monotonic, 3_000, time(0, 382_000));
     assert_same(&rt, &clock.snapshot(0).frac(), &(382_000 << 24));
 
-    let fine = fine_counter()?;
-    let coarse = CounterDesc::new(16, 1_000, 1)?;
-    let mut clock = opened()?;
+    let fine = fine_counter(&rt);
+    let coarse = desc_of(&rt, 16, 1_000, 1);
+    let mut clock = opened(&rt);
     answers(&rt, &mut clock, 0, Freq(32_768_000), Ok(()));
-    change_in_turn(&mut clock, &[fine, coarse, whole, fine, coarse, whole])?;
+    change_in_turn(&rt, &mut clock, &[fine, coarse, whole, fine, coarse, whole]);
     // The exact sum is 85,203,709.56 nanoseconds. Each of 333 changes to the coarse counter loses
     // less than half a nanosecond, and each of 333 changes from it to the first one loses nothing.
     has_words(
@@ -290,5 +288,4 @@ fn a_thousand_changes_lose_only_parts_of_a_nanosecond(rt: HostRuntime) -> Result
             0,
         ],
     );
-    Ok(())
 }

@@ -1,20 +1,20 @@
-use super::{are_distinct, assert_same, assert_same_at, opened, time};
-use std::test::Fail;
+use super::{applies, are_distinct, assert_same, assert_same_at, opened, time};
+use std::process::Abort;
 use tk_clock::{Clock, Command, Entry, ReadError, Refusal, Snapshot};
 use tk_test_support::CLOCKS;
 
 #[test]
-fn a_time_is_its_two_numbers(rt: HostRuntime) -> Result<(), Fail> {
+fn a_time_is_its_two_numbers(rt: HostRuntime) {
     are_distinct(&rt, &[time(1, 2), time(-1, 2), time(1, 3)])
 }
 
 #[test]
-fn no_clock_is_another(rt: HostRuntime) -> Result<(), Fail> {
+fn no_clock_is_another(rt: HostRuntime) {
     are_distinct(&rt, &CLOCKS)
 }
 
 #[test]
-fn no_refusal_is_another(rt: HostRuntime) -> Result<(), Fail> {
+fn no_refusal_is_another(rt: HostRuntime) {
     are_distinct(
         &rt,
         &[
@@ -26,12 +26,12 @@ fn no_refusal_is_another(rt: HostRuntime) -> Result<(), Fail> {
             Refusal::Range,
             Refusal::Memory,
         ],
-    )?;
+    );
     are_distinct(&rt, &[ReadError::Invalid, ReadError::Range])
 }
 
 #[test]
-fn a_command_is_its_kind_and_its_numbers(rt: HostRuntime) -> Result<(), Fail> {
+fn a_command_is_its_kind_and_its_numbers(rt: HostRuntime) {
     are_distinct(
         &rt,
         &[
@@ -57,7 +57,7 @@ fn a_command_is_its_kind_and_its_numbers(rt: HostRuntime) -> Result<(), Fail> {
 }
 
 #[test]
-fn an_entry_is_its_caller_reading_and_command(rt: HostRuntime) -> Result<(), Fail> {
+fn an_entry_is_its_caller_reading_and_command(rt: HostRuntime) {
     let entry = Entry {
         who: 1,
         reading: 2,
@@ -81,8 +81,8 @@ fn an_entry_is_its_caller_reading_and_command(rt: HostRuntime) -> Result<(), Fai
 }
 
 /// Returns clocks whose parts all have different values.
-fn varied() -> Result<Clock, Fail> {
-    let mut clock = opened()?;
+fn varied(rt: &impl Abort) -> Clock {
+    let mut clock = opened(rt);
     for (reading, cmd) in [
         (1_000, Command::Tick(10_007)),
         (2_000, Command::Freq(-65_536)),
@@ -91,24 +91,24 @@ fn varied() -> Result<Clock, Fail> {
         (5_000, Command::Resume(time(6, 7))),
         (8_000, Command::Suspend),
     ] {
-        clock.apply(reading, cmd)?;
+        applies(rt, &mut clock, reading, cmd);
     }
-    Ok(clock)
+    clock
 }
 
 #[test]
-fn a_clone_of_the_clocks_reads_and_goes_on_as_they_do(rt: HostRuntime) -> Result<(), Fail> {
-    let clock = varied()?;
+fn a_clone_of_the_clocks_reads_and_goes_on_as_they_do(rt: HostRuntime) {
+    let clock = varied(&rt);
     for (reading, cmd) in [
         (9_000, Command::Freq(65_536)),
         (9_000, Command::Tick(9_007)),
     ] {
-        let mut copy = clock.clone()?;
+        let mut copy = clock.clone().expect(&rt, "a copy");
         let mut own = clock;
         assert_same(&rt, &copy.snapshot(9).words(), &own.snapshot(9).words());
         for cmd in [Command::Resume(time(1, 1)), cmd] {
-            copy.apply(reading, cmd)?;
-            own.apply(reading, cmd)?;
+            applies(&rt, &mut copy, reading, cmd);
+            applies(&rt, &mut own, reading, cmd);
         }
         assert_same_at(
             &rt,
@@ -117,14 +117,12 @@ fn a_clone_of_the_clocks_reads_and_goes_on_as_they_do(rt: HostRuntime) -> Result
             &own.snapshot(9).words(),
         );
     }
-    Ok(())
 }
 
 #[test]
-fn a_clone_of_a_snapshot_has_its_words_and_its_counter(rt: HostRuntime) -> Result<(), Fail> {
-    let snapshot: Snapshot = varied()?.snapshot(9);
-    let copy = snapshot.clone()?;
+fn a_clone_of_a_snapshot_has_its_words_and_its_counter(rt: HostRuntime) {
+    let snapshot: Snapshot = varied(&rt).snapshot(9);
+    let copy = snapshot.clone().expect(&rt, "a copy");
     assert_same(&rt, &copy.words(), &snapshot.words());
     assert_same(&rt, &copy.desc(), &snapshot.desc());
-    Ok(())
 }

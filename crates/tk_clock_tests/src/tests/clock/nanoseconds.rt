@@ -3,7 +3,6 @@
 
 use super::{assert_same, assert_same_at, opened};
 use crate::tests::random::{clock_of, numbers};
-use std::test::Fail;
 use tk_clock::{ClockId, ReadError, Refusal, Snapshot, Timespec};
 use tk_test_support::CLOCKS;
 
@@ -32,9 +31,9 @@ fn by_line(snapshot: &Snapshot, clock: ClockId, reading: u64) -> Result<u64, Rea
 }
 
 #[test]
-fn nanoseconds_are_the_time_of_a_read(rt: HostRuntime) -> Result<(), Fail> {
-    for seed in numbers(rt.alloc(), 2_862_933_555_777_941_757, 300)? {
-        let snapshot = clock_of(seed)?.snapshot(0);
+fn nanoseconds_are_the_time_of_a_read(rt: HostRuntime) {
+    for seed in numbers(&rt, rt.alloc(), 2_862_933_555_777_941_757, 300) {
+        let snapshot = clock_of(&rt, seed).snapshot(0);
         let (last, mask) = (snapshot.last(), snapshot.desc().mask());
         for reading in [
             last,
@@ -53,23 +52,21 @@ fn nanoseconds_are_the_time_of_a_read(rt: HostRuntime) -> Result<(), Fail> {
             }
         }
     }
-    Ok(())
 }
 
 #[test]
-fn a_reading_above_the_mask_has_no_nanoseconds(rt: HostRuntime) -> Result<(), Fail> {
-    let snapshot = opened()?.snapshot(0);
+fn a_reading_above_the_mask_has_no_nanoseconds(rt: HostRuntime) {
+    let snapshot = opened(&rt).snapshot(0);
     for clock in CLOCKS {
         let found = snapshot.nanos(clock, 1 << 32);
         assert_same_at(&rt, &clock, &found, &Err(ReadError::Invalid));
     }
-    Ok(())
 }
 
 #[test]
-fn a_refusal_reads_as_text(rt: HostRuntime) -> Result<(), Fail> {
-    let text = format!(in rt.alloc(); "{}, {}", Refusal::Behind, ReadError::Invalid)?;
+fn a_refusal_reads_as_text(rt: HostRuntime) {
+    let text = format!(in rt.alloc(); "{}, {}", Refusal::Behind, ReadError::Invalid);
+    let text = text.expect(&rt, "memory");
     let wanted = "reading behind the last one, reading above the mask";
     assert_same(&rt, &text.as_str(), &wanted);
-    Ok(())
 }

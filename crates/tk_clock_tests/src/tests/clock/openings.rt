@@ -1,18 +1,16 @@
 use super::{assert_same, assert_same_at, nanosecond_counter, opened, time, wide_counter};
-use std::test::Fail;
 use tk_clock::{Clock, Refusal};
 use tk_test_support::OPENED_WORDS;
 
 #[test]
-fn the_clocks_open_awake_at_their_usual_rate(rt: HostRuntime) -> Result<(), Fail> {
-    assert_same(&rt, &opened()?.snapshot(0).words(), &OPENED_WORDS);
-    Ok(())
+fn the_clocks_open_awake_at_their_usual_rate(rt: HostRuntime) {
+    assert_same(&rt, &opened(&rt).snapshot(0).words(), &OPENED_WORDS);
 }
 
 #[test]
-fn the_getters_return_the_words(rt: HostRuntime) -> Result<(), Fail> {
-    let snapshot = opened()?.snapshot(0);
-    assert_same(&rt, &snapshot.desc(), &nanosecond_counter()?);
+fn the_getters_return_the_words(rt: HostRuntime) {
+    let snapshot = opened(&rt).snapshot(0);
+    assert_same(&rt, &snapshot.desc(), &nanosecond_counter(&rt));
     assert!(rt; !snapshot.asleep());
     assert_same(
         &rt,
@@ -30,12 +28,11 @@ fn the_getters_return_the_words(rt: HostRuntime) -> Result<(), Fail> {
         ],
         &OPENED_WORDS,
     );
-    Ok(())
 }
 
 #[test]
-fn an_opening_has_a_reading_and_a_settable_time(rt: HostRuntime) -> Result<(), Fail> {
-    let desc = nanosecond_counter()?;
+fn an_opening_has_a_reading_and_a_settable_time(rt: HostRuntime) {
+    let desc = nanosecond_counter(&rt);
     for (reading, real, opens) in [
         (4_294_967_295, time(0, 0), true),
         (4_294_967_296, time(0, 0), false),
@@ -48,6 +45,5 @@ fn an_opening_has_a_reading_and_a_settable_time(rt: HostRuntime) -> Result<(), F
         let wanted = if opens { None } else { Some(Refusal::Invalid) };
         assert_same_at(&rt, &(real, reading), &refusal, &wanted);
     }
-    assert!(rt; Clock::open(wide_counter()?, u64::MAX, time(0, 0)).is_ok());
-    Ok(())
+    assert!(rt; Clock::open(wide_counter(&rt), u64::MAX, time(0, 0)).is_ok());
 }

@@ -1,10 +1,10 @@
 //! Tests the first reading at which a clock has reached a time, at values worked out manually.
 
-use super::{assert_same_at, nanosecond_counter, opened, time, wide_counter};
+use super::{
+    applies, assert_same_at, desc_of, nanosecond_counter, opened, opened_at, time, wide_counter,
+};
 use std::process::Abort;
-use std::test::Fail;
 use tk_clock::{Clock, ClockId, Command, Timespec};
-use tk_counter::CounterDesc;
 
 /// Checks the first reading at which a clock has reached a time.
 fn reaches(rt: &impl Abort, clock: &Clock, id: ClockId, at: Timespec, first: Option<u64>) {
@@ -13,10 +13,10 @@ fn reaches(rt: &impl Abort, clock: &Clock, id: ClockId, at: Timespec, first: Opt
 }
 
 #[test]
-fn a_time_is_reached_at_its_own_nanosecond(rt: HostRuntime) -> Result<(), Fail> {
-    let mut clock = opened()?;
-    clock.apply(100, Command::Tai(37))?;
-    clock.apply(200, Command::Step(time(0, 50)))?;
+fn a_time_is_reached_at_its_own_nanosecond(rt: HostRuntime) {
+    let mut clock = opened(&rt);
+    applies(&rt, &mut clock, 100, Command::Tai(37));
+    applies(&rt, &mut clock, 200, Command::Step(time(0, 50)));
     for (id, at, first) in [
         (ClockId::Monotonic, time(0, 201), 201),
         (ClockId::Monotonic, time(2, 5), 2_000_000_005),
@@ -29,14 +29,13 @@ fn a_time_is_reached_at_its_own_nanosecond(rt: HostRuntime) -> Result<(), Fail> 
     ] {
         reaches(&rt, &clock, id, at, Some(first));
     }
-    Ok(())
 }
 
 #[test]
-fn a_time_that_was_reached_before_gives_the_last_reading(rt: HostRuntime) -> Result<(), Fail> {
-    let mut clock = opened()?;
-    clock.apply(100, Command::Suspend)?;
-    clock.apply(200, Command::Resume(time(60, 0)))?;
+fn a_time_that_was_reached_before_gives_the_last_reading(rt: HostRuntime) {
+    let mut clock = opened(&rt);
+    applies(&rt, &mut clock, 100, Command::Suspend);
+    applies(&rt, &mut clock, 200, Command::Resume(time(60, 0)));
     for (id, at) in [
         (ClockId::Monotonic, time(0, 100)),
         (ClockId::Monotonic, time(0, 99)),
@@ -51,12 +50,11 @@ fn a_time_that_was_reached_before_gives_the_last_reading(rt: HostRuntime) -> Res
     ] {
         reaches(&rt, &clock, id, at, Some(200));
     }
-    Ok(())
 }
 
 #[test]
-fn half_the_range_is_searched_and_not_one_reading_more(rt: HostRuntime) -> Result<(), Fail> {
-    let clock = opened()?;
+fn half_the_range_is_searched_and_not_one_reading_more(rt: HostRuntime) {
+    let clock = opened(&rt);
     for (at, first) in [
         (time(2, 147_483_646), Some(2_147_483_646)),
         (time(2, 147_483_647), Some(2_147_483_647)),
@@ -66,13 +64,12 @@ fn half_the_range_is_searched_and_not_one_reading_more(rt: HostRuntime) -> Resul
     ] {
         reaches(&rt, &clock, ClockId::Monotonic, at, first);
     }
-    Ok(())
 }
 
 #[test]
-fn the_counter_wraps_before_the_time(rt: HostRuntime) -> Result<(), Fail> {
-    let desc = nanosecond_counter()?;
-    let clock = Clock::open(desc, 4_294_967_290, time(1_700_000_000, 0))?;
+fn the_counter_wraps_before_the_time(rt: HostRuntime) {
+    let desc = nanosecond_counter(&rt);
+    let clock = opened_at(&rt, desc, 4_294_967_290, time(1_700_000_000, 0));
     for (at, first) in [
         (time(0, 5), Some(4_294_967_295)),
         (time(0, 6), Some(0)),
@@ -82,13 +79,12 @@ fn the_counter_wraps_before_the_time(rt: HostRuntime) -> Result<(), Fail> {
     ] {
         reaches(&rt, &clock, ClockId::Monotonic, at, first);
     }
-    Ok(())
 }
 
 #[test]
-fn a_cycle_that_began_counts_until_its_end(rt: HostRuntime) -> Result<(), Fail> {
+fn a_cycle_that_began_counts_until_its_end(rt: HostRuntime) {
     // 4,194,304 ns a cycle
-    let clock = Clock::open(wide_counter()?, 7, time(1_700_000_000, 0))?;
+    let clock = opened_at(&rt, wide_counter(&rt), 7, time(1_700_000_000, 0));
     for (at, first) in [
         (time(0, 1), 8),
         (time(0, 4_194_303), 8),
@@ -100,13 +96,12 @@ fn a_cycle_that_began_counts_until_its_end(rt: HostRuntime) -> Result<(), Fail> 
     ] {
         reaches(&rt, &clock, ClockId::Monotonic, at, Some(first));
     }
-    Ok(())
 }
 
 #[test]
-fn a_limit_comes_before_the_time(rt: HostRuntime) -> Result<(), Fail> {
+fn a_limit_comes_before_the_time(rt: HostRuntime) {
     // MONOTONIC is 946,079,999.998296064 s at the last reading with a value
-    let clock = Clock::open(wide_counter()?, 0, time(1_700_000_000, 0))?;
+    let clock = opened_at(&rt, wide_counter(&rt), 0, time(1_700_000_000, 0));
     for (at, first) in [
         (time(946_079_999, 998_296_064), Some(225_563_049_316)),
         (time(946_079_999, 998_296_065), None),
@@ -114,28 +109,26 @@ fn a_limit_comes_before_the_time(rt: HostRuntime) -> Result<(), Fail> {
     ] {
         reaches(&rt, &clock, ClockId::Monotonic, at, first);
     }
-    Ok(())
 }
 
 #[test]
-fn a_clock_that_stands_still_reaches_no_later_time(rt: HostRuntime) -> Result<(), Fail> {
-    let mut clock = opened()?;
+fn a_clock_that_stands_still_reaches_no_later_time(rt: HostRuntime) {
+    let mut clock = opened(&rt);
     reaches(&rt, &clock, ClockId::MonotonicCoarse, time(0, 1), None);
     let later = time(1_700_000_000, 1);
     reaches(&rt, &clock, ClockId::RealtimeCoarse, later, None);
-    clock.apply(100, Command::Suspend)?;
+    applies(&rt, &mut clock, 100, Command::Suspend);
     for id in [ClockId::Monotonic, ClockId::Boottime, ClockId::MonotonicRaw] {
         reaches(&rt, &clock, id, time(0, 100), Some(100));
         reaches(&rt, &clock, id, time(0, 101), None);
     }
-    Ok(())
 }
 
 #[test]
-fn a_steered_clock_is_early_and_raw_is_not(rt: HostRuntime) -> Result<(), Fail> {
-    let mut clock = opened()?;
+fn a_steered_clock_is_early_and_raw_is_not(rt: HostRuntime) {
+    let mut clock = opened(&rt);
     // 500 ppm faster: 16,785,604 units of 2^-24 ns a cycle
-    clock.apply(0, Command::Freq(32_768_000))?;
+    applies(&rt, &mut clock, 0, Command::Freq(32_768_000));
     for (id, first) in [
         (ClockId::Monotonic, 999_500_287),
         (ClockId::Boottime, 999_500_287),
@@ -143,14 +136,13 @@ fn a_steered_clock_is_early_and_raw_is_not(rt: HostRuntime) -> Result<(), Fail> 
     ] {
         reaches(&rt, &clock, id, time(1, 0), Some(first));
     }
-    Ok(())
 }
 
 #[test]
-fn the_longest_wait_of_the_widest_counter_is_found(rt: HostRuntime) -> Result<(), Fail> {
+fn the_longest_wait_of_the_widest_counter_is_found(rt: HostRuntime) {
     // 2^-24 ns a cycle, so 2^63 cycles last 549,755,813,888 ns
-    let desc = CounterDesc::new(64, 256, 32)?;
-    let clock = Clock::open(desc, u64::MAX, time(1_700_000_000, 0))?;
+    let desc = desc_of(&rt, 64, 256, 32);
+    let clock = opened_at(&rt, desc, u64::MAX, time(1_700_000_000, 0));
     for (at, first) in [
         (time(0, 1), Some(16_777_215)),
         (time(549, 755_813_887), Some(9_223_372_036_837_998_591)),
@@ -158,5 +150,4 @@ fn the_longest_wait_of_the_widest_counter_is_found(rt: HostRuntime) -> Result<()
     ] {
         reaches(&rt, &clock, ClockId::Monotonic, at, first);
     }
-    Ok(())
 }

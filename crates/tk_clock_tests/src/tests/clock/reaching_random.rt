@@ -4,7 +4,6 @@
 use super::{assert_same_at, time};
 use crate::tests::random::{clock_of, numbers};
 use std::process::Abort;
-use std::test::Fail;
 use tk_clock::{ClockId, Snapshot, Timespec};
 use tk_test_support::CLOCKS;
 
@@ -100,11 +99,11 @@ fn agrees_near(rt: &impl Abort, snapshot: &Snapshot, clock: ClockId, cycles: u64
 }
 
 #[test]
-fn the_first_reading_agrees_with_a_search(rt: HostRuntime) -> Result<(), Fail> {
+fn the_first_reading_agrees_with_a_search(rt: HostRuntime) {
     let mut reached: u64 = 0;
     let mut tried: u64 = 0;
-    for seed in numbers(rt.alloc(), 88_172_645_463_325_252, 300)? {
-        let snapshot = clock_of(seed)?.snapshot(0);
+    for seed in numbers(&rt, rt.alloc(), 88_172_645_463_325_252, 300) {
+        let snapshot = clock_of(&rt, seed).snapshot(0);
         let half = snapshot.desc().half();
         for clock in CLOCKS {
             for cycles in [
@@ -123,21 +122,21 @@ fn the_first_reading_agrees_with_a_search(rt: HostRuntime) -> Result<(), Fail> {
     let missed = tried.wrapping_sub(reached);
     let both = (reached > 10_000, missed > 5_000);
     assert_same_at(&rt, &(reached, missed), &both, &(true, true));
-    Ok(())
 }
 
 #[test]
-fn a_time_that_was_read_is_given_again(rt: HostRuntime) -> Result<(), Fail> {
+fn a_time_that_was_read_is_given_again(rt: HostRuntime) {
     let mut given: u64 = 0;
-    for seed in numbers(rt.alloc(), 6_364_136_223_846_793_005, 300)? {
-        let snapshot = clock_of(seed)?.snapshot(0);
+    for seed in numbers(&rt, rt.alloc(), 6_364_136_223_846_793_005, 300) {
+        let snapshot = clock_of(&rt, seed).snapshot(0);
         let desc = snapshot.desc();
         let reading = snapshot.last().wrapping_add((seed >> 9) & desc.half()) & desc.mask();
         for clock in CLOCKS {
             let Ok(read) = snapshot.get(clock, reading) else {
                 continue;
             };
-            let first = snapshot.reading_at(clock, read).ok_or("the time was read")?;
+            let first = snapshot.reading_at(clock, read);
+            let first = first.expect(&rt, "a time that was read");
             let row = (clock, reading);
             assert_same_at(&rt, &row, &snapshot.get(clock, first), &Ok(read));
             let far = desc.gap(snapshot.last(), reading);
@@ -147,5 +146,4 @@ fn a_time_that_was_read_is_given_again(rt: HostRuntime) -> Result<(), Fail> {
         }
     }
     assert_same_at(&rt, &given, &(given > 1_000), &true);
-    Ok(())
 }

@@ -1,10 +1,9 @@
 use super::{answers, has_words, opened, reads, time};
-use std::test::Fail;
 use tk_clock::{ClockId, Command, Refusal};
 
 #[test]
-fn a_suspension_moves_realtime_and_boottime(rt: HostRuntime) -> Result<(), Fail> {
-    let mut clock = opened()?;
+fn a_suspension_moves_realtime_and_boottime(rt: HostRuntime) {
+    let mut clock = opened(&rt);
     answers(&rt, &mut clock, 1_000, Command::Suspend, Ok(()));
     has_words(
         &rt,
@@ -57,5 +56,4 @@ fn a_suspension_moves_realtime_and_boottime(rt: HostRuntime) -> Result<(), Fail>
     ] {
         reads(&rt, &clock, id, reading, value);
     }
-    Ok(())
 }

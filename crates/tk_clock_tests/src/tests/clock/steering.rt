@@ -1,5 +1,4 @@
 use super::{answers, assert_same, assert_same_at, has_words, opened, reads, time};
-use std::test::Fail;
 use tk_clock::ClockId::{Monotonic, MonotonicRaw};
 use tk_clock::Command::{Freq, Tick};
 
@@ -7,8 +6,8 @@ use tk_clock::Command::{Freq, Tick};
 const SECOND: u64 = 1_000_000_000;
 
 #[test]
-fn a_snapshot_used_beyond_its_life_may_give_more(rt: HostRuntime) -> Result<(), Fail> {
-    let mut clock = opened()?;
+fn a_snapshot_used_beyond_its_life_may_give_more(rt: HostRuntime) {
+    let mut clock = opened(&rt);
     answers(&rt, &mut clock, 0, Freq(32_768_000), Ok(()));
     let first = clock.snapshot(1);
     answers(&rt, &mut clock, 1_000, Freq(-32_768_000), Ok(()));
@@ -17,12 +16,11 @@ fn a_snapshot_used_beyond_its_life_may_give_more(rt: HostRuntime) -> Result<(), 
         let read = snapshot.get(Monotonic, SECOND);
         assert_same_at(&rt, &snapshot.front(), &read, &Ok(value));
     }
-    Ok(())
 }
 
 #[test]
-fn a_tick_and_a_frequency_keep_each_other(rt: HostRuntime) -> Result<(), Fail> {
-    let mut clock = opened()?;
+fn a_tick_and_a_frequency_keep_each_other(rt: HostRuntime) {
+    let mut clock = opened(&rt);
     answers(&rt, &mut clock, 0, Tick(11_000), Ok(()));
     assert_same(&rt, &clock.snapshot(1).mult(), &18_454_937);
     reads(&rt, &clock, Monotonic, SECOND, time(1, 99_999_964));
@@ -48,5 +46,4 @@ fn a_tick_and_a_frequency_keep_each_other(rt: HostRuntime) -> Result<(), Fail> {
     );
     reads(&rt, &clock, Monotonic, SECOND + 1, time(1, 99_999_965));
     reads(&rt, &clock, MonotonicRaw, SECOND + 1, time(1, 1));
-    Ok(())
 }

@@ -1,17 +1,30 @@
 use super::{
     answers, assert_same, assert_same_at, has_words, nanosecond_counter, opened, reads, time,
 };
-use std::test::Fail;
+use std::process::Abort;
 use tk_clock::ClockId::{
     Boottime, Monotonic, MonotonicCoarse, MonotonicRaw, Realtime, RealtimeCoarse, Tai,
 };
-use tk_clock::{Clock, Command, Refusal};
+use tk_clock::{Clock, Command, Refusal, Timespec};
+use tk_counter::CounterDesc;
 use tk_test_support::OPENED_WORDS;
 
+/// Returns clocks that are opened with an uptime.
+fn ran_for(
+    rt: &impl Abort,
+    desc: CounterDesc,
+    reading: u64,
+    real: Timespec,
+    uptime: Timespec,
+) -> Clock {
+    Clock::open_at(desc, reading, real, uptime).expect(rt, "clocks")
+}
+
 #[test]
-fn clocks_count_the_uptime_that_they_are_opened_with(rt: HostRuntime) -> Result<(), Fail> {
-    let desc = nanosecond_counter()?;
-    let clock = Clock::open_at(desc, 9, time(1_700_000_000, 0), time(3_600, 250_000_000))?;
+fn clocks_count_the_uptime_that_they_are_opened_with(rt: HostRuntime) {
+    let desc = nanosecond_counter(&rt);
+    let uptime = time(3_600, 250_000_000);
+    let clock = ran_for(&rt, desc, 9, time(1_700_000_000, 0), uptime);
     // 250,000,000 ns are 250,000,000 * 2^24 units
     let rest = 4_194_304_000_000_000;
     let offset = 1_699_996_399_750_000_000;
@@ -38,27 +51,26 @@ fn clocks_count_the_uptime_that_they_are_opened_with(rt: HostRuntime) -> Result<
         time(1_700_000_000, 0),
     );
     assert_same(&rt, &(clock.frequency(), clock.tick()), &(0, 10_000));
-    Ok(())
 }
 
 #[test]
-fn an_uptime_of_0_is_an_opening(rt: HostRuntime) -> Result<(), Fail> {
-    let desc = nanosecond_counter()?;
-    let clock = Clock::open_at(desc, 0, time(1_700_000_000, 0), time(0, 0))?;
+fn an_uptime_of_0_is_an_opening(rt: HostRuntime) {
+    let desc = nanosecond_counter(&rt);
+    let clock = ran_for(&rt, desc, 0, time(1_700_000_000, 0), time(0, 0));
     has_words(&rt, &clock, 0, &OPENED_WORDS);
-    Ok(())
 }
 
 #[test]
-fn clocks_that_ran_for_a_time_equal_clocks_opened_with_it(rt: HostRuntime) -> Result<(), Fail> {
-    let mut ran = opened()?;
+fn clocks_that_ran_for_a_time_equal_clocks_opened_with_it(rt: HostRuntime) {
+    let mut ran = opened(&rt);
     answers(&rt, &mut ran, 1_500_000_000, Command::Update, Ok(()));
-    let mut begun = Clock::open_at(
-        nanosecond_counter()?,
+    let mut begun = ran_for(
+        &rt,
+        nanosecond_counter(&rt),
         1_500_000_000,
         time(1_700_000_001, 500_000_000),
         time(1, 500_000_000),
-    )?;
+    );
     for (reading, cmd, answer) in [
         (1_499_999_999, Command::Update, Err(Refusal::Behind)),
         (1_500_000_007, Command::Freq(32_768_000), Ok(())),
@@ -74,12 +86,11 @@ fn clocks_that_ran_for_a_time_equal_clocks_opened_with_it(rt: HostRuntime) -> Re
         answers(&rt, &mut begun, reading, cmd, answer);
         has_words(&rt, &begun, 0, &ran.snapshot(0).words());
     }
-    Ok(())
 }
 
 #[test]
-fn an_opening_with_an_uptime_returns_the_first_fault(rt: HostRuntime) -> Result<(), Fail> {
-    let desc = nanosecond_counter()?;
+fn an_opening_with_an_uptime_returns_the_first_fault(rt: HostRuntime) {
+    let desc = nanosecond_counter(&rt);
     let (invalid, range) = (Err(Refusal::Invalid), Err(Refusal::Range));
     for (reading, real, uptime, answer) in [
         (
@@ -107,5 +118,4 @@ fn an_opening_with_an_uptime_returns_the_first_fault(rt: HostRuntime) -> Result<
         let opens = Clock::open_at(desc, reading, real, uptime).map(|_| ());
         assert_same_at(&rt, &(reading, real, uptime), &opens, &answer);
     }
-    Ok(())
 }

@@ -1,6 +1,5 @@
-use super::{assert_same, assert_same_at, nanosecond_counter, opened, time};
+use super::{applies, assert_same, assert_same_at, nanosecond_counter, opened, time};
 use std::process::Abort;
-use std::test::Fail;
 use tk_clock::{ClockId, Command, ReadError, Snapshot};
 use tk_counter::CounterDesc;
 
@@ -39,8 +38,8 @@ fn is_taken(rt: &impl Abort, desc: CounterDesc, words: [u64; 10], taken: bool) {
 }
 
 #[test]
-fn a_word_is_taken_at_its_bound_and_not_past_it(rt: HostRuntime) -> Result<(), Fail> {
-    let desc = nanosecond_counter()?;
+fn a_word_is_taken_at_its_bound_and_not_past_it(rt: HostRuntime) {
+    let desc = nanosecond_counter(&rt);
     for place in 0..9usize {
         let most = BOUNDS[place];
         let past = most.saturating_add(1);
@@ -50,22 +49,20 @@ fn a_word_is_taken_at_its_bound_and_not_past_it(rt: HostRuntime) -> Result<(), F
             is_taken(&rt, desc, words, taken);
         }
     }
-    Ok(())
 }
 
 #[test]
-fn a_front_may_be_any_and_a_multiplier_is_not_0(rt: HostRuntime) -> Result<(), Fail> {
-    let desc = nanosecond_counter()?;
+fn a_front_may_be_any_and_a_multiplier_is_not_0(rt: HostRuntime) {
+    let desc = nanosecond_counter(&rt);
     for (front, mult, taken) in [(u64::MAX, 1, true), (0, 0, false)] {
         let words = [front, 0, mult, 0, 0, 0, 0, 0, 0, 0];
         is_taken(&rt, desc, words, taken);
     }
-    Ok(())
 }
 
 #[test]
-fn a_clock_is_below_its_end_at_the_last_reading(rt: HostRuntime) -> Result<(), Fail> {
-    let desc = nanosecond_counter()?;
+fn a_clock_is_below_its_end_at_the_last_reading(rt: HostRuntime) {
+    let desc = nanosecond_counter(&rt);
     for (frac, sec, real, boot, tai, taken) in [
         // MONOTONIC is at one second
         (0, 1, SECOND_BELOW_END - 1, 0, 0, true),
@@ -83,12 +80,11 @@ fn a_clock_is_below_its_end_at_the_last_reading(rt: HostRuntime) -> Result<(), F
         let words = [0, 0, 16_777_216, frac, sec, real, boot, tai, 0, 0];
         is_taken(&rt, desc, words, taken);
     }
-    Ok(())
 }
 
 #[test]
-fn the_greatest_monotonic_reads_beyond_its_limit_soon(rt: HostRuntime) -> Result<(), Fail> {
-    let desc = nanosecond_counter()?;
+fn the_greatest_monotonic_reads_beyond_its_limit_soon(rt: HostRuntime) {
+    let desc = nanosecond_counter(&rt);
     let mut words = [
         0,
         0,
@@ -101,7 +97,7 @@ fn the_greatest_monotonic_reads_beyond_its_limit_soon(rt: HostRuntime) -> Result
         0,
         0,
     ];
-    let snapshot = Snapshot::from_words(desc, words).ok_or("the words are in range")?;
+    let snapshot = Snapshot::from_words(desc, words).expect(&rt, "words in range");
     for (id, value) in [
         (ClockId::Monotonic, Err(ReadError::Range)),
         (ClockId::Realtime, Ok(time(946_080_002, 383_706_750))),
@@ -110,14 +106,13 @@ fn the_greatest_monotonic_reads_beyond_its_limit_soon(rt: HostRuntime) -> Result
     }
     words[2] = 18_622_710;
     is_taken(&rt, desc, words, false);
-    Ok(())
 }
 
 #[test]
-fn known_words_give_their_snapshot_back(rt: HostRuntime) -> Result<(), Fail> {
-    let mut clock = opened()?;
-    clock.apply(1_000, Command::Tai(37))?;
-    clock.apply(2_000, Command::Suspend)?;
+fn known_words_give_their_snapshot_back(rt: HostRuntime) {
+    let mut clock = opened(&rt);
+    applies(&rt, &mut clock, 1_000, Command::Tai(37));
+    applies(&rt, &mut clock, 2_000, Command::Suspend);
     let snapshot = clock.snapshot(2);
     let again = Snapshot::from_known_words(snapshot.desc(), snapshot.words());
     let wanted = [
@@ -139,5 +134,4 @@ fn known_words_give_their_snapshot_back(rt: HostRuntime) -> Result<(), Fail> {
         &(2, 2_000, 37),
     );
     assert!(rt; again.asleep());
-    Ok(())
 }

@@ -1,7 +1,6 @@
-use super::{assert_same_at, nanosecond_counter, quick, slow};
+use super::{assert_same_at, desc_of, nanosecond_counter, quick, slow};
 use crate::tests::random::drawn;
 use std::process::Abort;
-use std::test::Fail;
 use tk_counter::CounterDesc;
 
 const DELTAS: [u64; 16] = [
@@ -68,49 +67,47 @@ fn advances(
 }
 
 #[test]
-fn seconds_and_what_is_left_are_exact(rt: HostRuntime) -> Result<(), Fail> {
+fn seconds_and_what_is_left_are_exact(rt: HostRuntime) {
     for (gap, parts) in [
         ((16_777_215, 1, 16_777_216), (0, 33_554_431)),
         ((16_777_215_999_999_999, 1, 16_777_216), (1, 16_777_215)),
     ] {
-        advances(&rt, &nanosecond_counter()?, gap, Some(parts));
+        advances(&rt, &nanosecond_counter(&rt), gap, Some(parts));
     }
     advances(
         &rt,
-        &slow()?,
+        &slow(&rt),
         (862_207, 2_199_023_255_348, 4_194_304),
         Some((9_223_372_035, 999_999_999)),
     );
     advances(
         &rt,
-        &quick()?,
+        &quick(&rt),
         (16_777_215_999_999_999, 1_000_000_000_000_000, 699_050_667),
         Some((41_666_667, 11_518_143_999_999_999)),
     );
-    Ok(())
 }
 
 #[test]
-fn seconds_that_no_clock_reaches_are_refused(rt: HostRuntime) -> Result<(), Fail> {
+fn seconds_that_no_clock_reaches_are_refused(rt: HostRuntime) {
     for gap in [
         (862_208, 2_199_023_255_348, 4_194_304),
         (0, 9_223_372_036_854_775_807, 4_194_304),
     ] {
-        advances(&rt, &slow()?, gap, None);
+        advances(&rt, &slow(&rt), gap, None);
     }
     let gap = (
         16_777_215_999_999_999,
         9_223_372_036_854_775_807,
         699_050_667,
     );
-    advances(&rt, &quick()?, gap, None);
-    Ok(())
+    advances(&rt, &quick(&rt), gap, None);
 }
 
 #[test]
-fn edges_agree_with_wide_integers(rt: HostRuntime) -> Result<(), Fail> {
+fn edges_agree_with_wide_integers(rt: HostRuntime) {
     for shift in 0..=32 {
-        let desc = CounterDesc::new(64, 256, shift)?;
+        let desc = desc_of(&rt, 64, 256, shift);
         let last = desc.second().saturating_sub(1);
         for delta in DELTAS {
             for mult in MULTS {
@@ -119,14 +116,13 @@ fn edges_agree_with_wide_integers(rt: HostRuntime) -> Result<(), Fail> {
             }
         }
     }
-    Ok(())
 }
 
 #[test]
-fn any_gap_agrees_with_wide_integers(rt: HostRuntime) -> Result<(), Fail> {
+fn any_gap_agrees_with_wide_integers(rt: HostRuntime) {
     let mut seed = 88_172_645_463_325_252;
     for _ in 0..10_000 {
-        let desc = CounterDesc::new(64, 256, (drawn(&mut seed) % 33) as u32)?;
+        let desc = desc_of(&rt, 64, 256, (drawn(&mut seed) % 33) as u32);
         let number = drawn(&mut seed);
         let mult = (number & 0xffff_ffff) as u32;
         let frac = number >> 2;
@@ -135,5 +131,4 @@ fn any_gap_agrees_with_wide_integers(rt: HostRuntime) -> Result<(), Fail> {
         agrees(&rt, &desc, frac >> 24, delta >> 24, mult);
         agrees(&rt, &desc, frac >> 32, delta >> 40, mult);
     }
-    Ok(())
 }

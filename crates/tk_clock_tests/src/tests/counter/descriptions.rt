@@ -1,5 +1,4 @@
-use super::{assert_same, assert_same_at, nanosecond_counter, quick, slow};
-use std::test::Fail;
+use super::{assert_same, assert_same_at, desc_of, nanosecond_counter, quick, slow};
 use tk_counter::{CounterDesc, DescError};
 
 #[test]
@@ -19,21 +18,20 @@ fn the_first_fault_is_returned(rt: HostRuntime) {
 }
 
 #[test]
-fn the_ends_of_the_ranges_are_taken(rt: HostRuntime) -> Result<(), Fail> {
+fn the_ends_of_the_ranges_are_taken(rt: HostRuntime) {
     for (bits, mult, shift) in [(8, 256, 0), (64, 3_869_339_906, 32)] {
-        let desc = CounterDesc::new(bits, mult, shift)?;
+        let desc = desc_of(&rt, bits, mult, shift);
         assert_same(
             &rt,
             &(desc.bits(), desc.mult(), desc.shift()),
             &(bits, mult, shift),
         );
     }
-    Ok(())
 }
 
 #[test]
-fn a_description_fixes_its_amounts(rt: HostRuntime) -> Result<(), Fail> {
-    let desc = nanosecond_counter()?;
+fn a_description_fixes_its_amounts(rt: HostRuntime) {
+    let desc = nanosecond_counter(&rt);
     assert_same(
         &rt,
         &(desc.mask(), desc.half()),
@@ -43,29 +41,26 @@ fn a_description_fixes_its_amounts(rt: HostRuntime) -> Result<(), Fail> {
     assert_same(&rt, &desc.max_cycles(), &4_294_967_295);
     assert_same(&rt, &desc.fast_span(), &2_147_483_647);
     assert_same(&rt, &desc.second(), &16_777_216_000_000_000);
-    assert_same(&rt, &slow()?.second(), &1_000_000_000);
-    Ok(())
+    assert_same(&rt, &slow(&rt).second(), &1_000_000_000);
 }
 
 #[test]
-fn a_wide_counter_is_bounded_by_the_word(rt: HostRuntime) -> Result<(), Fail> {
+fn a_wide_counter_is_bounded_by_the_word(rt: HostRuntime) {
     assert_same(
         &rt,
-        &(quick()?.mask(), quick()?.half()),
+        &(quick(&rt).mask(), quick(&rt).half()),
         &(u64::MAX, u64::MAX >> 1),
     );
-    let wide = CounterDesc::new(48, 16_777_216, 24)?;
+    let wide = desc_of(&rt, 48, 16_777_216, 24);
     assert_same(&rt, &wide.fast_span(), &495_275_528_219);
-    Ok(())
 }
 
 #[test]
-fn a_fault_reads_as_a_sentence(rt: HostRuntime) -> Result<(), Fail> {
-    let text = format!(in rt.alloc(); "{}", DescError::Adjust)?;
+fn a_fault_reads_as_a_sentence(rt: HostRuntime) {
+    let text = format!(in rt.alloc(); "{}", DescError::Adjust).expect(&rt, "memory");
     assert_same(
         &rt,
         &text.as_str(),
         &"the mult and 11 percent of it do not fit 32 bits",
     );
-    Ok(())
 }

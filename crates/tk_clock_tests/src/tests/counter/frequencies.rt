@@ -1,5 +1,4 @@
 use super::{assert_same, assert_same_at, next_random};
-use std::test::Fail;
 use tk_counter::{CounterDesc, DescError};
 
 /// The scales of the kernel's `clocksource_register_hz` and `clocksource_register_khz`.
@@ -78,24 +77,22 @@ fn described(scale: u32, bits: u32, rate: u32, maxsec: u32) -> Result<CounterDes
 }
 
 #[test]
-fn a_rate_is_scaled_as_in_the_kernel(rt: HostRuntime) -> Result<(), Fail> {
+fn a_rate_is_scaled_as_in_the_kernel(rt: HostRuntime) {
     for (scale, rate, maxsec, mult, shift) in FROM_KERNEL {
         for bits in [32, 64] {
-            let desc = described(scale, bits, rate, maxsec)?;
+            let desc = described(scale, bits, rate, maxsec).expect(&rt, "a counter");
             let made = (desc.bits(), desc.mult(), desc.shift());
             let row = (scale, rate, maxsec);
             assert_same_at(&rt, &row, &made, &(bits, mult, shift));
         }
     }
-    Ok(())
 }
 
 #[test]
-fn a_frequency_fixes_the_amounts(rt: HostRuntime) -> Result<(), Fail> {
-    let desc = CounterDesc::from_hz(32, 24_000_000, 600)?;
+fn a_frequency_fixes_the_amounts(rt: HostRuntime) {
+    let desc = described(HERTZ, 32, 24_000_000, 600).expect(&rt, "a counter");
     assert_same(&rt, &desc.max_adj(), &76_895_573);
     assert_same(&rt, &desc.max_cycles(), &4_294_967_295);
-    Ok(())
 }
 
 #[test]
@@ -115,32 +112,31 @@ fn the_bits_are_refused_before_the_rate(rt: HostRuntime) {
 }
 
 #[test]
-fn any_frequency_is_scaled_as_by_the_kernels_loops(rt: HostRuntime) -> Result<(), Fail> {
+fn any_frequency_is_scaled_as_by_the_kernels_loops(rt: HostRuntime) {
     let mut seed = 88_172_645_463_325_252;
     for _ in 0..4_000 {
         seed = next_random(seed);
         let rate = (seed >> 32 >> (seed & 31)) as u32 | 1;
         let maxsec = 1 + (seed >> 8 & 511) as u32;
         for scale in [HERTZ, KILOHERTZ] {
-            let desc = described(scale, 64, rate, maxsec)?;
+            let desc = described(scale, 64, rate, maxsec).expect(&rt, "a counter");
             let made = Some((u64::from(desc.mult()), desc.shift()));
             let row = (scale, rate, maxsec);
             assert_same_at(&rt, &row, &made, &kernel_scale(scale, rate, maxsec));
         }
     }
-    Ok(())
 }
 
 #[test]
-fn a_rate_makes_the_same_counter_in_hz_and_in_khz(rt: HostRuntime) -> Result<(), Fail> {
+fn a_rate_makes_the_same_counter_in_hz_and_in_khz(rt: HostRuntime) {
     let mut seed = 1_181_783_497_276_652_981;
     for _ in 0..4_000 {
         seed = next_random(seed);
         let khz = 1 + (seed >> 32 >> (seed & 31)) as u32 % 4_294_967;
         let maxsec = 1 + (seed >> 8 & 511) as u32;
-        let in_hz = CounterDesc::from_hz(64, khz.saturating_mul(1_000), maxsec)?;
-        let in_khz = CounterDesc::from_khz(64, khz, maxsec)?;
+        let in_hz = described(HERTZ, 64, khz.saturating_mul(1_000), maxsec);
+        let in_khz = described(KILOHERTZ, 64, khz, maxsec);
+        assert_same_at(&rt, &(khz, maxsec), &in_khz.is_ok(), &true);
         assert_same_at(&rt, &(khz, maxsec), &in_khz, &in_hz);
     }
-    Ok(())
 }

@@ -1,10 +1,9 @@
-use super::{assert_same, assert_same_at, nanosecond_counter, quick};
-use std::test::Fail;
+use super::{assert_same, assert_same_at, desc_of, nanosecond_counter, quick};
 use tk_counter::CounterDesc;
 
 #[test]
-fn a_gap_goes_over_the_wrap(rt: HostRuntime) -> Result<(), Fail> {
-    let desc = nanosecond_counter()?;
+fn a_gap_goes_over_the_wrap(rt: HostRuntime) {
+    let desc = nanosecond_counter(&rt);
     for (last, now, gap) in [
         (0, 0, 0),
         (1_000, 2_000, 1_000),
@@ -14,20 +13,18 @@ fn a_gap_goes_over_the_wrap(rt: HostRuntime) -> Result<(), Fail> {
     ] {
         assert_same_at(&rt, &(last, now), &desc.gap(last, now), &gap);
     }
-    assert_same(&rt, &quick()?.gap(u64::MAX, 1), &2);
-    Ok(())
+    assert_same(&rt, &quick(&rt).gap(u64::MAX, 1), &2);
 }
 
 #[test]
-fn bits_above_the_counters_do_not_count(rt: HostRuntime) -> Result<(), Fail> {
-    let desc = CounterDesc::new(8, 256, 0)?;
+fn bits_above_the_counters_do_not_count(rt: HostRuntime) {
+    let desc = desc_of(&rt, 8, 256, 0);
     assert_same(&rt, &desc.gap(0x1234_56fe, 0xabcd_ef03), &5);
-    Ok(())
 }
 
 #[test]
-fn half_the_range_leads_forward_and_one_more_leads_back(rt: HostRuntime) -> Result<(), Fail> {
-    let desc = nanosecond_counter()?;
+fn half_the_range_leads_forward_and_one_more_leads_back(rt: HostRuntime) {
+    let desc = nanosecond_counter(&rt);
     for (last, now, behind) in [
         (0, 0, false),
         (0, 2_147_483_647, false),
@@ -39,8 +36,7 @@ fn half_the_range_leads_forward_and_one_more_leads_back(rt: HostRuntime) -> Resu
         let found = desc.is_behind(desc.gap(last, now));
         assert_same_at(&rt, &(last, now), &found, &behind);
     }
-    let wide = quick()?;
+    let wide = quick(&rt);
     assert!(rt; !wide.is_behind(u64::MAX >> 1));
     assert!(rt; wide.is_behind(1 << 63));
-    Ok(())
 }

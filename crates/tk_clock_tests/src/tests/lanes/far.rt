@@ -1,11 +1,9 @@
 //! Tests stamps far from the last command, with values from products of 128 bits.
 
-use super::{converts, time};
+use super::{applies, converts, desc_of, opened_at, time};
 use std::alloc::Global;
 use std::process::Abort;
-use std::test::Fail;
-use tk_clock::{Clock, ClockId, Command, Snapshot};
-use tk_counter::CounterDesc;
+use tk_clock::{ClockId, Command, Snapshot};
 use tk_lanes::BatchError;
 
 /// The reading of the last command.
@@ -24,10 +22,11 @@ const RATES: [(u32, u32); 5] = [
 ];
 
 /// Returns a snapshot of clocks with one command at `LAST`.
-fn updated(bits: u32, mult: u32, shift: u32) -> Result<Snapshot, Fail> {
-    let mut clock = Clock::open(CounterDesc::new(bits, mult, shift)?, 1_000, time(0, 0))?;
-    clock.apply(LAST, Command::Update)?;
-    Ok(clock.snapshot(1))
+fn updated(rt: &impl Abort, bits: u32, mult: u32, shift: u32) -> Snapshot {
+    let desc = desc_of(rt, bits, mult, shift);
+    let mut clock = opened_at(rt, desc, 1_000, time(0, 0));
+    applies(rt, &mut clock, LAST, Command::Update);
+    clock.snapshot(1)
 }
 
 /// Returns MONOTONIC a number of cycles after the last command, in ns.
@@ -49,71 +48,68 @@ fn converts_in_each_order(
     snapshot: &Snapshot,
     stamps: &mut [u64],
     values: &mut [u64],
-) -> Result<(), Fail> {
+) {
     let clock = ClockId::Monotonic;
-    converts(rt, alloc, snapshot, clock, stamps, Ok(()), values)?;
+    converts(rt, alloc, snapshot, clock, stamps, Ok(()), values);
     stamps.reverse();
     values.reverse();
-    converts(rt, alloc, snapshot, clock, stamps, Ok(()), values)?;
+    converts(rt, alloc, snapshot, clock, stamps, Ok(()), values);
     for turn in [1usize, 3, 7] {
         let places = turn.min(stamps.len()).min(values.len());
         stamps.rotate_left(places);
         values.rotate_left(places);
-        converts(rt, alloc, snapshot, clock, stamps, Ok(()), values)?;
+        converts(rt, alloc, snapshot, clock, stamps, Ok(()), values);
     }
-    Ok(())
 }
 
 /// Checks the stamps these numbers of cycles after the last command, except those at the limit.
-fn converts_gaps(
-    rt: &impl Abort,
-    alloc: Global,
-    snapshot: &Snapshot,
-    gaps: &[u64],
-) -> Result<(), Fail> {
+fn converts_gaps(rt: &impl Abort, alloc: Global, snapshot: &Snapshot, gaps: &[u64]) {
     let (mut stamps, mut values) = (Vec::new(alloc), Vec::new(alloc));
     for cycles in gaps {
         let value = monotonic_after(snapshot, *cycles);
         if value < LIMIT {
-            stamps.push(LAST.wrapping_add(*cycles))?;
-            values.push(value as u64)?;
+            pushes(rt, &mut stamps, LAST.wrapping_add(*cycles));
+            pushes(rt, &mut values, value as u64);
         }
     }
     let (stamps, values) = (stamps.as_mut_slice(), values.as_mut_slice());
-    converts_in_each_order(rt, alloc, snapshot, stamps, values)
+    converts_in_each_order(rt, alloc, snapshot, stamps, values);
+}
+
+/// Appends a number to a list.
+fn pushes(rt: &impl Abort, list: &mut Vec<u64>, number: u64) {
+    list.push(number).expect(rt, "memory");
 }
 
 #[test]
-fn gaps_next_to_each_power_of_two_are_converted(rt: HostRuntime) -> Result<(), Fail> {
+fn gaps_next_to_each_power_of_two_are_converted(rt: HostRuntime) {
     let mut gaps = Vec::new(rt.alloc());
     for power in 1..60u32 {
         for cycles in [(1u64 << power) - 1, 1 << power, (1 << power) + 1] {
-            gaps.push(cycles)?;
+            pushes(&rt, &mut gaps, cycles);
         }
     }
     for (mult, shift) in RATES {
-        let snapshot = updated(64, mult, shift)?;
-        converts_gaps(&rt, rt.alloc(), &snapshot, gaps.as_slice())?;
+        let snapshot = updated(&rt, 64, mult, shift);
+        converts_gaps(&rt, rt.alloc(), &snapshot, gaps.as_slice());
     }
-    Ok(())
 }
 
 #[test]
-fn gaps_next_to_64_bits_of_units_are_converted(rt: HostRuntime) -> Result<(), Fail> {
+fn gaps_next_to_64_bits_of_units_are_converted(rt: HostRuntime) {
     for (mult, shift) in RATES {
         let most = u64::MAX / u64::from(mult.max(1));
         let mut gaps = [most.wrapping_sub(20); 40];
         for (step, gap) in gaps.iter_mut().enumerate() {
             *gap = gap.wrapping_add(step as u64);
         }
-        converts_gaps(&rt, rt.alloc(), &updated(64, mult, shift)?, &gaps)?;
+        converts_gaps(&rt, rt.alloc(), &updated(&rt, 64, mult, shift), &gaps);
     }
-    Ok(())
 }
 
 #[test]
-fn half_the_range_ends_the_gaps_that_lead_forward(rt: HostRuntime) -> Result<(), Fail> {
-    let snapshot = updated(48, 16_777_216, 24)?;
+fn half_the_range_ends_the_gaps_that_lead_forward(rt: HostRuntime) {
+    let snapshot = updated(&rt, 48, 16_777_216, 24);
     // half of 2^48 cycles leads back, and one less leads forward
     let half = 140_737_488_355_328;
     let (first, last) = (
@@ -130,32 +126,33 @@ fn half_the_range_ends_the_gaps_that_lead_forward(rt: HostRuntime) -> Result<(),
     let mut values = [
         most, opened, most, opened, opened, opened, opened, most, most, most, opened,
     ];
-    converts_in_each_order(&rt, rt.alloc(), &snapshot, &mut stamps, &mut values)
+    converts_in_each_order(&rt, rt.alloc(), &snapshot, &mut stamps, &mut values);
 }
 
 #[test]
-fn gaps_after_a_wrap_are_converted(rt: HostRuntime) -> Result<(), Fail> {
+fn gaps_after_a_wrap_are_converted(rt: HostRuntime) {
     let alloc = rt.alloc();
     // the greatest reading of 48 bits, less 5
     let last = 281_474_976_710_650u64;
-    let mut clock = Clock::open(CounterDesc::new(48, 699_050_667, 24)?, last, time(0, 0))?;
-    clock.apply(last, Command::Update)?;
+    let mut clock = opened_at(&rt, desc_of(&rt, 48, 699_050_667, 24), last, time(0, 0));
+    applies(&rt, &mut clock, last, Command::Update);
     let snapshot = clock.snapshot(1);
     let (mut stamps, mut values) = (Vec::new(alloc), Vec::new(alloc));
     for power in 0..47u32 {
         let cycles = (1u64 << power) - 1;
-        stamps.push(last.wrapping_add(cycles) & 281_474_976_710_655)?;
-        values.push(nanos_after(&snapshot, cycles))?;
+        let stamp = last.wrapping_add(cycles) & 281_474_976_710_655;
+        pushes(&rt, &mut stamps, stamp);
+        pushes(&rt, &mut values, nanos_after(&snapshot, cycles));
     }
     let (stamps, values) = (stamps.as_mut_slice(), values.as_mut_slice());
-    converts_in_each_order(&rt, alloc, &snapshot, stamps, values)
+    converts_in_each_order(&rt, alloc, &snapshot, stamps, values);
 }
 
 #[test]
-fn the_limit_ends_a_list_wherever_it_is_reached(rt: HostRuntime) -> Result<(), Fail> {
+fn the_limit_ends_a_list_wherever_it_is_reached(rt: HostRuntime) {
     let alloc = rt.alloc();
     let clock = ClockId::Monotonic;
-    let snapshot = updated(64, 16_777_216, 24)?;
+    let snapshot = updated(&rt, 64, 16_777_216, 24);
     // one nanosecond a cycle, and 1,233,567 ns at the last command
     let past = LAST
         .wrapping_add(946_080_000_000_000_000)
@@ -171,7 +168,6 @@ fn the_limit_ends_a_list_wherever_it_is_reached(rt: HostRuntime) -> Result<(), F
             *value = 946_080_000_000_000_000u64.wrapping_sub(before.wrapping_mul(1 << 23));
         }
         let answer = Err(BatchError::Range { index: place });
-        converts(&rt, alloc, &snapshot, clock, &stamps, answer, &values)?;
+        converts(&rt, alloc, &snapshot, clock, &stamps, answer, &values);
     }
-    Ok(())
 }

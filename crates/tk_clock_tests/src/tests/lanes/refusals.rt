@@ -1,22 +1,21 @@
-use super::{assert_same, converts, opened, time};
-use std::test::Fail;
+use super::{assert_same, converts, desc_of, opened, opened_at, time};
+use std::process::Abort;
 use tk_clock::{Clock, ClockId};
-use tk_counter::CounterDesc;
 use tk_lanes::BatchError;
 
 /// The first reading above a 48-bit mask.
 const ABOVE: u64 = 281_474_976_710_656;
 
 /// Returns a counter of 4,194,304 nanoseconds a cycle, with 64-bit readings.
-fn wide() -> Result<Clock, Fail> {
-    let desc = CounterDesc::new(64, 4_194_304, 0)?;
-    Ok(Clock::open(desc, 0, time(1_700_000_000, 0))?)
+fn wide(rt: &impl Abort) -> Clock {
+    let desc = desc_of(rt, 64, 4_194_304, 0);
+    opened_at(rt, desc, 0, time(1_700_000_000, 0))
 }
 
 #[test]
-fn a_stamp_above_the_mask_ends_a_list(rt: HostRuntime) -> Result<(), Fail> {
+fn a_stamp_above_the_mask_ends_a_list(rt: HostRuntime) {
     let alloc = rt.alloc();
-    let snapshot = opened()?.snapshot(0);
+    let snapshot = opened(&rt).snapshot(0);
     let answer = Err(BatchError::Invalid { index: 1 });
     let stamps = [1_001, ABOVE, 1_002];
     // a coarse clock refuses too
@@ -26,33 +25,32 @@ fn a_stamp_above_the_mask_ends_a_list(rt: HostRuntime) -> Result<(), Fail> {
         (ClockId::MonotonicCoarse, 0),
     ] {
         let values = [first, 7, 7];
-        converts(&rt, alloc, &snapshot, clock, &stamps, answer, &values)?;
+        converts(&rt, alloc, &snapshot, clock, &stamps, answer, &values);
     }
-    Ok(())
 }
 
 #[test]
-fn a_value_at_the_limit_ends_a_list(rt: HostRuntime) -> Result<(), Fail> {
+fn a_value_at_the_limit_ends_a_list(rt: HostRuntime) {
     let alloc = rt.alloc();
-    let snapshot = wide()?.snapshot(0);
+    let snapshot = wide(&rt).snapshot(0);
     let clock = ClockId::Monotonic;
     let (stamps, values) = ([1, 9_223_372_036_854_775_807], [4_194_304, 7]);
     let answer = Err(BatchError::Range { index: 1 });
-    converts(&rt, alloc, &snapshot, clock, &stamps, answer, &values)?;
+    converts(&rt, alloc, &snapshot, clock, &stamps, answer, &values);
     // 225563049316 cycles are 946079999.998296064 seconds, and one more is past the limit
     let (last, past) = (225_563_049_316, 225_563_049_317);
     let stamps = [last, 1, 1, 1, 1, 1, 1, 1, last, past];
     let (most, one) = (946_079_999_998_296_064, 4_194_304);
     let values = [most, one, one, one, one, one, one, one, most, 7];
     let answer = Err(BatchError::Range { index: 9 });
-    converts(&rt, alloc, &snapshot, clock, &stamps, answer, &values)
+    converts(&rt, alloc, &snapshot, clock, &stamps, answer, &values);
 }
 
 #[test]
-fn the_place_of_a_refused_stamp_is_that_in_the_list(rt: HostRuntime) -> Result<(), Fail> {
+fn the_place_of_a_refused_stamp_is_that_in_the_list(rt: HostRuntime) {
     let alloc = rt.alloc();
     let clock = ClockId::Monotonic;
-    let snapshot = opened()?.snapshot(0);
+    let snapshot = opened(&rt).snapshot(0);
     for place in 0..24usize {
         let mut stamps = [1_005; 24];
         let mut values = [7; 24];
@@ -61,13 +59,12 @@ fn the_place_of_a_refused_stamp_is_that_in_the_list(rt: HostRuntime) -> Result<(
             *value = 5;
         }
         let answer = Err(BatchError::Invalid { index: place });
-        converts(&rt, alloc, &snapshot, clock, &stamps, answer, &values)?;
+        converts(&rt, alloc, &snapshot, clock, &stamps, answer, &values);
     }
-    Ok(())
 }
 
 #[test]
-fn a_fault_is_stated_in_words(rt: HostRuntime) -> Result<(), Fail> {
+fn a_fault_is_stated_in_words(rt: HostRuntime) {
     let alloc = rt.alloc();
     for (fault, text) in [
         (
@@ -76,7 +73,7 @@ fn a_fault_is_stated_in_words(rt: HostRuntime) -> Result<(), Fail> {
         ),
         (BatchError::Range { index: 0 }, "item 0: value out of range"),
     ] {
-        assert_same(&rt, &format!(in alloc; "{fault}")?.as_str(), &text);
+        let found = format!(in alloc; "{fault}").expect(&rt, "memory");
+        assert_same(&rt, &found.as_str(), &text);
     }
-    Ok(())
 }

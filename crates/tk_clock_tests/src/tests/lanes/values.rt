@@ -1,7 +1,5 @@
-use super::{agree, assert_same, converts, opened, sevens};
-use std::test::Fail;
+use super::{agree, applies, assert_same, by_lanes, converts, opened, sevens};
 use tk_clock::{ClockId, Command};
-use tk_lanes::lane_batch;
 
 /// Stamps near the last command, near the end of 63 bits of units, and near the first readings that
 /// are behind.
@@ -47,9 +45,9 @@ const VALUES: [u64; 17] = [
 ];
 
 #[test]
-fn each_rotation_and_prefix_is_converted(rt: HostRuntime) -> Result<(), Fail> {
+fn each_rotation_and_prefix_is_converted(rt: HostRuntime) {
     let alloc = rt.alloc();
-    let snapshot = opened()?.snapshot(0);
+    let snapshot = opened(&rt).snapshot(0);
     for turn in 0..17usize {
         let mut stamps = STAMPS;
         let mut values = VALUES;
@@ -64,17 +62,16 @@ fn each_rotation_and_prefix_is_converted(rt: HostRuntime) -> Result<(), Fail> {
                 &stamps[..len],
                 Ok(()),
                 &values[..len],
-            )?;
+            );
         }
     }
-    Ok(())
 }
 
 #[test]
-fn a_steered_clock_and_the_raw_one_part(rt: HostRuntime) -> Result<(), Fail> {
+fn a_steered_clock_and_the_raw_one_part(rt: HostRuntime) {
     let alloc = rt.alloc();
-    let mut clock = opened()?;
-    clock.apply(1_000, Command::Tick(11_000))?;
+    let mut clock = opened(&rt);
+    applies(&rt, &mut clock, 1_000, Command::Tick(11_000));
     let snapshot = clock.snapshot(1);
     // mult 18454937 instead of 16777216
     for (clock, value) in [
@@ -94,48 +91,38 @@ fn a_steered_clock_and_the_raw_one_part(rt: HostRuntime) -> Result<(), Fail> {
             &[1_000_001_000; 9],
             Ok(()),
             &[value; 9],
-        )?;
+        );
     }
-    Ok(())
 }
 
 #[test]
-fn a_part_of_a_list_is_written_alone(rt: HostRuntime) -> Result<(), Fail> {
-    let snapshot = opened()?.snapshot(0);
+fn a_part_of_a_list_is_written_alone(rt: HostRuntime) {
+    let snapshot = opened(&rt).snapshot(0);
     let mut out = [7; 17];
-    let answer = lane_batch(
-        &snapshot,
-        ClockId::Monotonic,
-        &STAMPS[3..13],
-        &mut out[3..13],
-    );
+    let (clock, stamps) = (ClockId::Monotonic, &STAMPS[3..13]);
+    let answer = by_lanes(&rt, &snapshot, clock, stamps, &mut out[3..13]);
     assert_same(&rt, &answer, &Ok(()));
     let mut values = [7; 17];
     values[3..13].copy_from_slice(&VALUES[3..13]);
     assert_same(&rt, &out, &values);
-    Ok(())
 }
 
 #[test]
-fn a_million_stamps_are_converted(rt: HostRuntime) -> Result<(), Fail> {
+fn a_million_stamps_are_converted(rt: HostRuntime) {
     let alloc = rt.alloc();
-    let snapshot = opened()?.snapshot(0);
-    let mut stamps = sevens(alloc, 1_048_576)?;
+    let snapshot = opened(&rt).snapshot(0);
+    let mut stamps = sevens(&rt, alloc, 1_048_576);
     let mut next = 0u64;
     for stamp in stamps.iter_mut() {
         *stamp = next;
         next = next.wrapping_add(1_000);
     }
-    let answer = agree(&rt, alloc, &snapshot, ClockId::Monotonic, stamps.as_slice())?;
+    let answer = agree(&rt, alloc, &snapshot, ClockId::Monotonic, stamps.as_slice());
     assert_same(&rt, &answer, &Ok(()));
-    let mut out = sevens(alloc, 1_048_576)?;
-    lane_batch(
-        &snapshot,
-        ClockId::Monotonic,
-        stamps.as_slice(),
-        out.as_mut_slice(),
-    )?;
+    let mut out = sevens(&rt, alloc, 1_048_576);
+    let (clock, stamps) = (ClockId::Monotonic, stamps.as_slice());
+    let answer = by_lanes(&rt, &snapshot, clock, stamps, out.as_mut_slice());
+    assert_same(&rt, &answer, &Ok(()));
     // 1,048,575 times 1000 cycles, minus the opening's reading
     assert_same(&rt, &out.last(), &Some(&1_048_574_000));
-    Ok(())
 }

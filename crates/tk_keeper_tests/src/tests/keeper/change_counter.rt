@@ -1,6 +1,6 @@
 use super::{
-    answers, assert_same, has_no_front, length_and_words, opened, reads_at, reads_monotonic,
-    steered, time, updated, words_at,
+    answers, applies, assert_same, entry_of, has_no_front, length, opened, parts, reads_at,
+    reads_monotonic, reserves, snapshot_of, steered, time, updated, words_at, words_of,
 };
 use std::alloc::Allocator;
 use std::process::Abort;
@@ -30,12 +30,22 @@ fn changes<A: Allocator + Copy>(
     answer: Result<u64, Refusal>,
 ) {
     let (desc, first) = to;
-    let before = (length_and_words(keeper), keeper.folded(), keeper.spare());
-    assert_same(rt, &keeper.change_counter(reading, desc, first), &answer);
+    let before = (parts(keeper), keeper.folded());
+    assert_same(rt, &changed(keeper, reading, desc, first), &answer);
     if answer.is_err() {
-        let after = (length_and_words(keeper), keeper.folded(), keeper.spare());
+        let after = (parts(keeper), keeper.folded());
         assert_same(rt, &after, &before);
     }
+}
+
+/// Changes the counter. It states nothing of the journal.
+pub(super) fn changed<A: Allocator + Copy>(
+    keeper: &mut Timekeeper<A>,
+    reading: u64,
+    desc: CounterDesc,
+    first: u64,
+) -> Result<u64, Refusal> {
+    keeper.change_counter(reading, desc, first)
 }
 
 #[test]
@@ -48,23 +58,38 @@ fn a_change_of_counter_folds_the_journal(rt: HostRuntime) {
         (fine_counter(&rt), 5),
         Ok(3),
     );
-    assert_same(&rt, &(keeper.len(), keeper.folded()), &(3, 3));
-    assert_same(&rt, &keeper.snapshot().desc(), &fine_counter(&rt));
-    assert_same(&rt, &(keeper.entry(2), keeper.entry(3)), &(None, None));
-    has_no_front(&rt, &keeper, 2, FrontError::Folded);
-    has_no_front(&rt, &keeper, 4, FrontError::Unknown);
-    reads_monotonic(&rt, &keeper, 5, time(1, 499_964));
-
+    is_changed(&rt, &keeper);
     answers(&rt, &mut keeper, &[(1_000_005, Update, Ok(4))]);
-    assert_same(&rt, &keeper.entry(4).is_some(), &true);
+    assert_same(&rt, &entry_of(&keeper, 4).is_some(), &true);
     reads_at(
         &rt,
         &keeper,
         3,
         &[(Monotonic, 1_000_005, time(1, 1_198_107))],
     );
-    let traced = keeper.trace(&[3, 4, 2], &[5, 0, 0], Monotonic);
-    assert_same(&rt, &traced.err(), &Some(TraceError::Folded { index: 2 }));
+    has_folded(&rt, &keeper, &[3, 4, 2], &[5, 0, 0]);
+}
+
+/// Checks a journal that was folded by a change to `fine_counter`, as its third command.
+fn is_changed(rt: &impl Abort, keeper: &Timekeeper) {
+    assert_same(rt, &(length(keeper), keeper.folded()), &(3, 3));
+    assert_same(rt, &snapshot_of(keeper).desc(), &fine_counter(rt));
+    let entries = (entry_of(keeper, 2), entry_of(keeper, 3));
+    assert_same(rt, &entries, &(None, None));
+    has_no_front(rt, keeper, 2, FrontError::Folded);
+    has_no_front(rt, keeper, 4, FrontError::Unknown);
+    reads_monotonic(rt, keeper, 5, time(1, 499_964));
+}
+
+/// Checks that the third item of a trace has a folded front.
+pub(super) fn has_folded(
+    rt: &impl Abort,
+    keeper: &Timekeeper,
+    fronts: &[u64; 3],
+    stamps: &[u64; 3],
+) {
+    let traced = keeper.trace(fronts, stamps, Monotonic);
+    assert_same(rt, &traced.err(), &Some(TraceError::Folded { index: 2 }));
 }
 
 #[test]
@@ -97,28 +122,25 @@ fn a_refused_change_of_counter_changes_nothing(rt: HostRuntime) {
     ] {
         changes(&rt, &mut keeper, reading, (desc, 0), Err(refusal));
     }
-    assert_same(&rt, &words_at(&keeper, 2), &Ok(keeper.snapshot().words()));
+    assert_same(&rt, &words_at(&keeper, 2), &Ok(words_of(&keeper)));
     // asleep, a reading that is behind is taken
     answers(&rt, &mut keeper, &[(1_000_000_000, Suspend, Ok(3))]);
     changes(&rt, &mut keeper, 0, (desc, 9), Ok(4));
-    assert_same(
-        &rt,
-        &(keeper.snapshot().asleep(), keeper.snapshot().last()),
-        &(true, 9),
-    );
+    let snapshot = snapshot_of(&keeper);
+    assert_same(&rt, &(snapshot.asleep(), snapshot.last()), &(true, 9));
 }
 
 #[test]
 fn a_change_of_counter_takes_no_memory(rt: HostRuntime) {
     let heap = Heap::new(rt.alloc());
     let mut keeper = opened(&rt, &heap);
-    assert_same(&rt, &keeper.reserve(600), &Ok(()));
+    assert_same(&rt, &reserves(&mut keeper, 600), &Ok(()));
     heap.refuse_all();
     let spare = keeper.spare();
     changes(&rt, &mut keeper, 7, (half_counter(&rt), 0), Ok(1));
     assert_same(&rt, &(keeper.spare().wrapping_add(1) >= spare), &true);
     for number in 2..=spare as u64 {
-        assert_same(&rt, &keeper.apply(0, number, Update), &Ok(number));
+        assert_same(&rt, &applies(&mut keeper, number, Update), &Ok(number));
     }
 }
 
@@ -129,5 +151,5 @@ fn a_full_journal_accepts_a_change_of_counter(rt: HostRuntime) {
     changes(&rt, &mut keeper, 3, (half_counter(&rt), 0), Ok(1_048_577));
     answers(&rt, &mut keeper, &[(2, Update, Ok(1_048_578))]);
     reads_monotonic(&rt, &keeper, 2, time(0, 4));
-    assert_same(&rt, &keeper.snapshot().real_offset(), &OPENED_REAL);
+    assert_same(&rt, &snapshot_of(&keeper).real_offset(), &OPENED_REAL);
 }

@@ -1,8 +1,8 @@
 use super::sleep::wakes;
 use super::steering::speeds_up;
 use super::{
-    FASTER_WORDS, answers, assert_same, has_no_front, opened, reads_at, reads_monotonic, steered,
-    time, updated, words_at,
+    FASTER_WORDS, answers, assert_same, entry_of, folds, has_no_front, length, opened, reads_at,
+    reads_monotonic, steered, time, updated, words_at,
 };
 use std::alloc::Global;
 use std::process::Abort;
@@ -13,7 +13,7 @@ use tk_keeper::{FrontError, Timekeeper};
 fn folded(rt: &impl Abort, alloc: Global, reading: u64, cmd: Command) -> Timekeeper {
     let mut keeper = opened(rt, alloc);
     answers(rt, &mut keeper, &[(reading, cmd, Ok(1))]);
-    assert_same(rt, &keeper.fold(0), &1);
+    folds(rt, &mut keeper, 0, 1);
     keeper
 }
 
@@ -21,10 +21,10 @@ fn folded(rt: &impl Abort, alloc: Global, reading: u64, cmd: Command) -> Timekee
 fn folded_entries_are_gone_and_count_on(rt: HostRuntime) {
     let mut keeper = steered(&rt, rt.alloc());
     let at = 1_000_000_000;
-    assert_same(&rt, &keeper.fold(1), &1);
-    assert_same(&rt, &(keeper.len(), keeper.folded()), &(2, 1));
-    assert_same(&rt, &keeper.entry(1), &None);
-    assert_same(&rt, &keeper.entry(2).is_some(), &true);
+    folds(&rt, &mut keeper, 1, 1);
+    assert_same(&rt, &(length(&keeper), keeper.folded()), &(2, 1));
+    assert_same(&rt, &entry_of(&keeper, 1), &None);
+    assert_same(&rt, &entry_of(&keeper, 2).is_some(), &true);
     has_no_front(&rt, &keeper, 0, FrontError::Folded);
     assert_same(&rt, &words_at(&keeper, 1), &Ok(FASTER_WORDS));
     reads_at(
@@ -34,7 +34,7 @@ fn folded_entries_are_gone_and_count_on(rt: HostRuntime) {
         &[(ClockId::Monotonic, at, time(1, 499_963))],
     );
     reads_monotonic(&rt, &keeper, at + 1, time(1, 499_964));
-    assert_same(&rt, &keeper.fold(5), &1);
+    folds(&rt, &mut keeper, 5, 1);
 }
 
 #[test]
@@ -55,7 +55,7 @@ fn kept_states_outlast_folding(rt: HostRuntime) {
         (300, 700, 767, time(0, 767_000)),
         (0, 1_000, 1_000, time(0, 1_000_000)),
     ] {
-        assert_same(&rt, &keeper.fold(keep), &folded);
+        folds(&rt, &mut keeper, keep, folded);
         let value = (ClockId::MonotonicCoarse, 0, coarse);
         reads_at(&rt, &keeper, front, &[value]);
         has_no_front(&rt, &keeper, 254, FrontError::Folded);

@@ -1,6 +1,7 @@
 //! Traces whose fronts change in every order. All values are compared with the values of the
 //! fronts' snapshots.
 
+use super::replayed::folds_to;
 use super::traces::traced;
 use super::{applied, assert_same, opened, put, time};
 use std::alloc::Global;
@@ -105,8 +106,7 @@ fn fronts_in_each_order_are_converted_by_their_own_clocks(rt: HostRuntime) {
         (256, ClockId::Tai),
         (300, ClockId::MonotonicRaw),
     ] {
-        keeper.fold(COMMANDS - folded);
-        assert_same(&rt, &keeper.folded(), &folded);
+        folds_to(&rt, &mut keeper, COMMANDS, folded);
         for order in [
             Order::Equal,
             Order::TenEach,

@@ -1,4 +1,4 @@
-use super::{answers, assert_same, opened, reads_at, time, words_at};
+use super::{answers, assert_same, entry_of, folds, opened, reads_at, time, words_at};
 use tk_clock::Command::{Leap, Tai, Update};
 use tk_clock::{ClockId, Command, Entry};
 
@@ -23,7 +23,7 @@ fn a_leap_second_is_one_entry(rt: HostRuntime) {
         reading: 1_000,
         cmd: INSERTS,
     };
-    assert_same(&rt, &keeper.entry(3), &Some(entry));
+    assert_same(&rt, &entry_of(&keeper, 3), &Some(entry));
     for (front, reading, nsec, real) in [
         (2, 1_000, 1_000, 1_700_000_000),
         (3, 1_000, 1_000, 1_699_999_999),
@@ -37,6 +37,6 @@ fn a_leap_second_is_one_entry(rt: HostRuntime) {
         reads_at(&rt, &keeper, front, &values);
     }
     let words = words_at(&keeper, 4);
-    assert_same(&rt, &keeper.fold(0), &4);
+    folds(&rt, &mut keeper, 0, 4);
     assert_same(&rt, &words_at(&keeper, 4), &words);
 }

@@ -1,6 +1,6 @@
 use super::{
-    FASTER_WORDS, OPENED_REAL, OPENED_WORDS, THOUSAND, applied, assert_same, has_no_front, opened,
-    reads_at, steered, time, updated, words_at,
+    FASTER_WORDS, OPENED_REAL, OPENED_WORDS, THOUSAND, applied, assert_same, entry_of,
+    has_no_front, opened, reads_at, steered, time, updated, words_at,
 };
 use tk_clock::{ClockId, Command, Entry};
 use tk_keeper::FrontError;
@@ -69,6 +69,6 @@ fn the_entries_are_found_by_their_numbers(rt: HostRuntime) {
     };
     assert_same(&rt, &applied(&rt, &mut keeper, 7, entry.cmd), &Ok(1));
     for (number, found) in [(0, None), (1, Some(entry)), (2, None)] {
-        assert_same(&rt, &keeper.entry(number), &found);
+        assert_same(&rt, &entry_of(&keeper, number), &found);
     }
 }

@@ -4,7 +4,7 @@
 //! updates.
 
 use super::fronts::{COMMANDS, command};
-use super::{applied, assert_same, words_at};
+use super::{applied, assert_same, words_at, words_of};
 use std::alloc::Global;
 use std::process::Abort;
 use tk_clock::{Clock, Command};
@@ -102,20 +102,32 @@ fn filled(rt: &impl Abort, alloc: Global, desc: CounterDesc, filling: Filling) {
     let mut keeper = Timekeeper::open(alloc, desc, 0, OPENED_TIME).expect(rt, "a timekeeper");
     let mut clock = opened;
     for number in 1..=filling.count() {
-        let reading = advanced(rt, &mut clock, filling, number);
-        let answer = applied(rt, &mut keeper, reading, filling.command(number));
-        assert_same(rt, &answer, &Ok(number));
-        assert_same(
-            rt,
-            &keeper.snapshot().words(),
-            &clock.snapshot(number).words(),
-        );
+        follows(rt, &mut keeper, &mut clock, filling, number);
     }
     for folded in [0, 100, 256, 300, 511, 512, 513] {
-        keeper.fold(filling.count().wrapping_sub(folded));
-        assert_same(rt, &keeper.folded(), &folded);
+        folds_to(rt, &mut keeper, filling.count(), folded);
         compared(rt, &keeper, opened, filling);
     }
+}
+
+/// Applies the next command to both, and checks that their words are equal.
+fn follows(
+    rt: &impl Abort,
+    keeper: &mut Timekeeper,
+    clock: &mut Clock,
+    filling: Filling,
+    number: u64,
+) {
+    let reading = advanced(rt, clock, filling, number);
+    let answer = applied(rt, keeper, reading, filling.command(number));
+    assert_same(rt, &answer, &Ok(number));
+    assert_same(rt, &words_of(keeper), &clock.snapshot(number).words());
+}
+
+/// Folds a journal of `count` commands up to a front.
+pub(super) fn folds_to(rt: &impl Abort, keeper: &mut Timekeeper, count: u64, folded: u64) {
+    keeper.fold(count.wrapping_sub(folded));
+    assert_same(rt, &keeper.folded(), &folded);
 }
 
 #[test]

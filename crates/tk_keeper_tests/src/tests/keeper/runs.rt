@@ -1,5 +1,7 @@
-use super::{assert_same, opened};
+use super::{assert_same, entry_of, length, opened};
+use std::alloc::Allocator;
 use tk_clock::{Command, Entry, Refusal};
+use tk_keeper::Timekeeper;
 
 fn event(reading: u64, cmd: Command) -> Entry {
     Entry {
@@ -7,6 +9,14 @@ fn event(reading: u64, cmd: Command) -> Entry {
         reading,
         cmd,
     }
+}
+
+/// Applies events. It states nothing of the journal, to keep the proof of each test short.
+pub(super) fn run_all<A: Allocator + Copy>(
+    keeper: &mut Timekeeper<A>,
+    events: &[Entry],
+) -> Result<Vec<Result<u64, Refusal>, A>, Refusal> {
+    keeper.run(events)
 }
 
 #[test]
@@ -17,15 +27,16 @@ fn a_run_goes_on_after_a_refusal(rt: HostRuntime) {
         event(99, Command::Update),
         event(200, Command::Tai(37)),
     ];
-    match keeper.run(&events) {
+    match run_all(&mut keeper, &events) {
         Ok(answers) => {
             let wanted = [Ok(1), Err(Refusal::Behind), Ok(2)];
             assert_same(&rt, &answers.as_slice(), &wanted.as_slice());
         }
         Err(refusal) => assert_same(&rt, &Some(refusal), &None),
     }
-    assert_same(&rt, &keeper.len(), &2);
-    assert_same(&rt, &keeper.entry(2), &Some(event(200, Command::Tai(37))));
+    assert_same(&rt, &length(&keeper), &2);
+    let last = event(200, Command::Tai(37));
+    assert_same(&rt, &entry_of(&keeper, 2), &Some(last));
 }
 
 #[test]
@@ -34,7 +45,7 @@ fn a_run_may_have_more_events_than_a_journal_lists(rt: HostRuntime) {
         &rt, "memory",
     );
     let mut keeper = opened(&rt, rt.alloc());
-    match keeper.run(events.as_slice()) {
+    match run_all(&mut keeper, events.as_slice()) {
         Ok(answers) => {
             assert_same(&rt, &answers.len(), &1_048_577);
             assert_same(&rt, &answers.get(1_048_575), &Some(&Ok(1_048_576)));
@@ -42,5 +53,5 @@ fn a_run_may_have_more_events_than_a_journal_lists(rt: HostRuntime) {
         }
         Err(refusal) => assert_same(&rt, &Some(refusal), &None),
     }
-    assert_same(&rt, &keeper.len(), &1_048_576);
+    assert_same(&rt, &length(&keeper), &1_048_576);
 }

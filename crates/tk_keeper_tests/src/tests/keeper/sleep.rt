@@ -1,4 +1,4 @@
-use super::{ASLEEP_WORDS, AWAKE_WORDS, answers, assert_same, opened, reads, time};
+use super::{ASLEEP_WORDS, AWAKE_WORDS, answers, assert_same, opened, reads_now, time, words_of};
 use std::process::Abort;
 use tk_clock::ClockId;
 use tk_clock::Command::{Resume, Suspend, Update};
@@ -7,16 +7,16 @@ use tk_keeper::Timekeeper;
 
 /// Resumes clocks that were suspended at reading 1,000, and checks them before and after.
 pub(super) fn wakes(rt: &impl Abort, keeper: &mut Timekeeper) {
-    assert_same(rt, &keeper.snapshot().words(), &ASLEEP_WORDS);
+    assert_same(rt, &words_of(keeper), &ASLEEP_WORDS);
     let steps = [
         (2_000, Update, Err(Asleep)),
         (5, Resume(time(5, 500_000_000)), Ok(2)),
     ];
     answers(rt, keeper, &steps);
-    assert_same(rt, &keeper.snapshot().words(), &AWAKE_WORDS);
-    reads(
+    assert_same(rt, &words_of(keeper), &AWAKE_WORDS);
+    reads_now(
         rt,
-        &keeper.snapshot(),
+        keeper,
         &[
             (ClockId::Monotonic, 5, time(0, 1_000)),
             (ClockId::Realtime, 5, time(1_700_000_005, 500_001_000)),

@@ -1,4 +1,4 @@
-use super::{TICKED_WORDS, answers, assert_same, opened, reads, time};
+use super::{TICKED_WORDS, answers, assert_same, opened, reads_now, snapshot_of, time, words_of};
 use std::process::Abort;
 use tk_clock::{ClockId, Command};
 use tk_keeper::Timekeeper;
@@ -7,20 +7,20 @@ use tk_keeper::Timekeeper;
 /// checks them before and after.
 pub(super) fn speeds_up(rt: &impl Abort, keeper: &mut Timekeeper) {
     let at = 1_000_000_000;
-    assert_same(rt, &keeper.snapshot().mult(), &18_454_937);
-    reads(
+    assert_same(rt, &snapshot_of(keeper).mult(), &18_454_937);
+    reads_now(
         rt,
-        &keeper.snapshot(),
+        keeper,
         &[
             (ClockId::Monotonic, at, time(1, 99_999_964)),
             (ClockId::MonotonicRaw, at, time(1, 0)),
         ],
     );
     answers(rt, keeper, &[(at, Command::Freq(32_768_000), Ok(2))]);
-    assert_same(rt, &keeper.snapshot().words(), &TICKED_WORDS);
-    reads(
+    assert_same(rt, &words_of(keeper), &TICKED_WORDS);
+    reads_now(
         rt,
-        &keeper.snapshot(),
+        keeper,
         &[
             (ClockId::Monotonic, at, time(1, 99_999_964)),
             (ClockId::Monotonic, at + 1, time(1, 99_999_965)),
@@ -42,5 +42,5 @@ fn the_running_clocks_have_the_rate_in_force(rt: HostRuntime) {
     answers(&rt, &mut keeper, &[(0, Command::Tick(11_000), Ok(1))]);
     let clock = *keeper.clock();
     assert_same(&rt, &(clock.tick(), clock.frequency()), &(11_000, 0));
-    assert_same(&rt, &clock.snapshot(1).words(), &keeper.snapshot().words());
+    assert_same(&rt, &clock.snapshot(1).words(), &words_of(&keeper));
 }

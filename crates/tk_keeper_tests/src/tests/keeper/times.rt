@@ -1,4 +1,4 @@
-use super::{answers, assert_same, opened, time};
+use super::{answers, assert_same, folds, opened, time};
 use std::process::Abort;
 use tk_clock::{ClockId, Command, ReadError, Timespec};
 use tk_keeper::Timekeeper;
@@ -27,7 +27,7 @@ fn reads_are_the_journals_own(rt: HostRuntime) {
         (ClockId::Boottime, 5, Ok(time(5, 500_001_000))),
     ];
     gives(&rt, &keeper, &values);
-    assert_same(&rt, &keeper.fold(0), &2);
+    folds(&rt, &mut keeper, 0, 2);
     gives(&rt, &keeper, &values);
 }
 
@@ -59,6 +59,6 @@ fn monotonic_is_read_at_the_last_command(rt: HostRuntime) {
     ];
     answers(&rt, &mut keeper, &steps);
     assert_same(&rt, &keeper.monotonic(), &time(2, 700));
-    assert_same(&rt, &keeper.fold(0), &3);
+    folds(&rt, &mut keeper, 0, 3);
     assert_same(&rt, &keeper.monotonic(), &time(2, 700));
 }

@@ -1,5 +1,5 @@
 use super::{ABOVE, answers, assert_same, opened, put, steered, time};
-use std::alloc::Global;
+use std::alloc::{Allocator, Global};
 use std::process::Abort;
 use tk_clock::{ClockId, Command};
 use tk_keeper::{Timekeeper, TraceError};
@@ -25,22 +25,47 @@ pub(super) fn traced(
     assert!(rt; fronts.len() == stamps.len() && stamps.len() <= MOST);
     let mut memory = [OLD; MOST];
     let (out, _) = memory.split_at_mut(stamps.len());
-    let done = keeper.trace_into(fronts, stamps, clock, out);
-    assert_same(rt, &done, &answer);
+    assert_same(rt, &into(rt, keeper, fronts, stamps, clock, out), &answer);
     written(rt, out, values);
     let mut memory = [OLD; MOST];
     let (out, _) = memory.split_at_mut(stamps.len());
-    let half = out.len() / 2;
-    let (begun, _) = out.split_at_mut(half);
-    let done = match keeper.trace_from(fronts, stamps, clock, 0, begun) {
-        Ok(()) => keeper.trace_from(fronts, stamps, clock, half, out),
-        fault => fault,
-    };
-    assert_same(rt, &done, &answer);
+    assert_same(rt, &halves(rt, keeper, fronts, stamps, clock, out), &answer);
     written(rt, out, values);
     match keeper.trace(fronts, stamps, clock) {
         Ok(list) => assert_same(rt, &(list.as_slice(), Ok(())), &(values, answer)),
         Err(error) => assert_same(rt, &Err(error), &answer),
+    }
+}
+
+/// Converts stamps as of their fronts, into the caller's memory of the same length. It states
+/// nothing of the values, to keep the proof of each test short.
+fn into<A: Allocator + Copy>(
+    rt: &impl Abort,
+    keeper: &Timekeeper<A>,
+    fronts: &[u64],
+    stamps: &[u64],
+    clock: ClockId,
+    out: &mut [u64],
+) -> Result<(), TraceError> {
+    assert!(rt; fronts.len() == stamps.len() && stamps.len() == out.len());
+    keeper.trace_into(fronts, stamps, clock, out)
+}
+
+/// Converts the first half of the stamps, and then the others.
+fn halves(
+    rt: &impl Abort,
+    keeper: &Timekeeper,
+    fronts: &[u64],
+    stamps: &[u64],
+    clock: ClockId,
+    out: &mut [u64],
+) -> Result<(), TraceError> {
+    assert!(rt; fronts.len() == stamps.len() && stamps.len() == out.len());
+    let half = out.len() / 2;
+    let (begun, _) = out.split_at_mut(half);
+    match keeper.trace_from(fronts, stamps, clock, 0, begun) {
+        Ok(()) => keeper.trace_from(fronts, stamps, clock, half, out),
+        fault => fault,
     }
 }
 
@@ -166,14 +191,29 @@ fn a_fault_in_any_part_of_a_list_is_returned(rt: HostRuntime) {
     for index in [
         9_999, 9_000, 5_000, 4_999, 999, 512, 511, 300, 256, 255, 5, 0,
     ] {
-        let (before, _) = values.split_at(index);
-        put(&mut stamps, index, ABOVE);
-        let fault = Err(TraceError::Invalid { index });
-        traced(&rt, &keeper, &fronts, &stamps, clock, before, fault);
-        put(&mut fronts, index, 1);
-        let fault = Err(TraceError::Unknown { index });
-        traced(&rt, &keeper, &fronts, &stamps, clock, before, fault);
+        ends_at(&rt, &keeper, &mut fronts, &mut stamps, &values, index);
     }
+}
+
+/// Gives an item a stamp above the mask, and then also a front that is unknown. Checks that both
+/// faults end a trace of MONOTONIC.
+fn ends_at(
+    rt: &impl Abort,
+    keeper: &Timekeeper,
+    fronts: &mut [u64],
+    stamps: &mut [u64],
+    values: &[u64],
+    index: usize,
+) {
+    assert!(rt; index <= values.len());
+    let clock = ClockId::Monotonic;
+    let (before, _) = values.split_at(index);
+    put(stamps, index, ABOVE);
+    let fault = Err(TraceError::Invalid { index });
+    traced(rt, keeper, fronts, stamps, clock, before, fault);
+    put(fronts, index, 1);
+    let fault = Err(TraceError::Unknown { index });
+    traced(rt, keeper, fronts, stamps, clock, before, fault);
 }
 
 /// Returns whether an item is in every second stretch, if each stretch has `length` items.
@@ -236,8 +276,9 @@ fn each_request_refused_in_turn_is_returned_first(rt: HostRuntime) {
     listed(&rt, &keeper, &[], &[], Ok(&[]));
     // the caller's memory needs no allocation
     let mut out = [OLD; 2];
-    let done = keeper.trace_into(&[0, 1], &[at, at], ClockId::Monotonic, &mut out);
+    let clock = ClockId::Monotonic;
+    let done = into(&rt, &keeper, &[0, 1], &[at, at], clock, &mut out);
     assert_same(&rt, &(done, out), &(Ok(()), [at, 1_000_499_963]));
-    let done = keeper.trace_into(&[], &[], ClockId::Tai, &mut []);
+    let done = into(&rt, &keeper, &[], &[], ClockId::Tai, &mut []);
     assert_same(&rt, &done, &Ok(()));
 }

@@ -1,7 +1,8 @@
 //! Lists with unordered fronts, so that several threads convert a few thousand items.
 
 use super::{
-    ABOVE, Lists, agrees_with_one_thread, answered, assert_same, counted, first_faults, opened,
+    ABOVE, Lists, agrees_with_one_thread, answered, applies, assert_same, counted, first_faults,
+    opened,
 };
 use std::alloc::Global;
 use std::process::Abort;
@@ -27,7 +28,7 @@ fn busy(rt: &impl Abort, alloc: Global, pair: [Command; 2]) -> Timekeeper {
     let mut keeper = opened(rt, alloc);
     for _ in 0..PAIRS {
         for cmd in pair {
-            assert_same(rt, &keeper.apply(0, READING, cmd).is_ok(), &true);
+            assert_same(rt, &applies(&mut keeper, READING, cmd).is_ok(), &true);
         }
     }
     keeper
@@ -63,7 +64,7 @@ fn calm(rt: &impl Abort, alloc: Global) -> Timekeeper {
         } else {
             Command::Update
         };
-        assert_same(rt, &keeper.apply(0, READING, cmd), &Ok(number));
+        assert_same(rt, &applies(&mut keeper, READING, cmd), &Ok(number));
     }
     keeper
 }

@@ -1,9 +1,8 @@
 //! Tests reads that state the value that they expect.
 
-use super::assert_same;
-use super::many::agreeing;
-use std::test::Fail;
-use tk_replay::{CheckedReport, NoGate, replay, replay_all, replay_bounded, report};
+use super::many::{agreeing, assert_outcomes, owned};
+use super::{BOTH, assert_same, replayed, reported};
+use tk_replay::{CheckedReport, NoGate};
 
 /// Reads of a counter of one nanosecond a cycle. The records 3, 5, 7 and 8 expect another value than
 /// the clock has, or one where the read is refused.
@@ -21,38 +20,31 @@ at,tai,1700000001.000000000\nno,invalid\ndiffers,7,0\n\
 at,boottime,0.000000000\ndiffers,8,18446744073709551615\nat,monotonic_raw,0.000000000\n";
 
 #[test]
-fn states_each_value_that_a_read_does_not_give(rt: HostRuntime) -> Result<(), Fail> {
-    let text = report(rt.alloc(), SCRIPT)?;
+fn states_each_value_that_a_read_does_not_give(rt: HostRuntime) {
+    let text = reported(rt.alloc(), false, SCRIPT).expect(&rt, "a report");
     assert_same(&rt, &text.as_slice(), &REPORT);
-    Ok(())
 }
 
 #[test]
 fn counts_the_differences_of_a_replay(rt: HostRuntime) {
-    let mut text = Vec::new(rt.alloc());
-    let mut script = SCRIPT;
-    assert_same(&rt, &replay(rt.alloc(), &mut script, &mut text), &Ok(4));
-    assert_same(&rt, &text.as_slice(), &REPORT);
-    let mut text = Vec::new(rt.alloc());
-    let mut script = SCRIPT;
-    let outcome = replay_bounded(rt.alloc(), &mut script, &mut text, 1);
-    assert_same(&rt, &outcome, &Ok(4));
-    assert_same(&rt, &text.as_slice(), &REPORT);
+    for is_bounded in BOTH {
+        let mut text = Vec::new(rt.alloc());
+        let mut script = SCRIPT;
+        let outcome = replayed(rt.alloc(), is_bounded, &mut script, &mut text);
+        assert_same(&rt, &outcome, &Ok(4));
+        assert_same(&rt, &text.as_slice(), &REPORT);
+    }
 }
 
 #[test]
-fn counts_the_differences_of_many_scripts(rt: HostRuntime) -> Result<(), Fail> {
-    let alloc = rt.alloc();
-    let differing = Vec::from_slice(alloc, SCRIPT)?;
-    let opening = Vec::from_slice(alloc, b"open,8,256,0,0,0,0\nget,0,tai,0\n")?;
-    let scripts = vec![in alloc; differing, opening]?;
-    let first = Ok(CheckedReport {
-        text: Vec::from_slice(alloc, REPORT)?,
+fn counts_the_differences_of_many_scripts(rt: HostRuntime) {
+    let opening = b"open,8,256,0,0,0,0\nget,0,tai,0\n";
+    let scripts = [owned(&rt, SCRIPT), owned(&rt, opening)];
+    let first = CheckedReport {
+        text: owned(&rt, REPORT),
         differences: 4,
-    });
-    let second = Vec::from_slice(alloc, b"open,8,256,0\nat,tai,0.000000000\n")?;
-    let wanted = vec![in alloc; first, Ok(agreeing(second))]?;
-    let found = replay_all(alloc, &rt, scripts.as_slice(), 2, &NoGate);
-    assert_same(&rt, &found, &Ok(wanted));
-    Ok(())
+    };
+    let second = agreeing(owned(&rt, b"open,8,256,0\nat,tai,0.000000000\n"));
+    let wanted = vec![in rt.alloc(); Ok(first), Ok(second)].expect(&rt, "memory");
+    assert_outcomes(&rt, scripts.as_slice(), 2, &NoGate, &Ok(wanted));
 }

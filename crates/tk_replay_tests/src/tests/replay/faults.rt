@@ -1,16 +1,15 @@
 //! The texts of the faults.
 
 use super::assert_lines;
-use std::test::Fail;
 use tk_keeper::TraceError;
 use tk_replay::Fault;
 use tk_script::ScriptError;
 
 #[test]
-fn names_each_fault(rt: HostRuntime) -> Result<(), Fail> {
+fn names_each_fault(rt: HostRuntime) {
     let plain = [Fault::Read, Fault::Memory, Fault::Write { written: 30 }];
     let texts = "cannot read\nout of memory\ncannot write\n";
-    assert_lines(&rt, plain.as_slice(), texts)?;
+    assert_lines(&rt, plain.as_slice(), texts);
     let of_scripts = [
         Fault::Script(ScriptError::TooLarge),
         Fault::Script(ScriptError::Empty),
@@ -25,7 +24,7 @@ script: record 1: not a valid opening\n\
 script: record 2: unknown word\n\
 script: record 3: wrong number of fields\n\
 script: record 4: not a number in range\n";
-    assert_lines(&rt, of_scripts.as_slice(), texts)?;
+    assert_lines(&rt, of_scripts.as_slice(), texts);
     let of_stamps = [
         Fault::Stamps(ScriptError::Fields { row: 5 }),
         Fault::Trace(TraceError::Unknown { index: 3 }),
@@ -38,5 +37,5 @@ item 3: unknown front\n\
 item 0: folded front\n\
 item 1: stamp above the mask\n\
 item 2: value out of range\n";
-    assert_lines(&rt, of_stamps.as_slice(), texts)
+    assert_lines(&rt, of_stamps.as_slice(), texts);
 }

@@ -1,14 +1,13 @@
 //! Tests many scripts at once: order, counts, threads and gates.
 
-use super::{REPORT, SCRIPT, assert_lines, assert_same};
+use super::{REPORT, SCRIPT, assert_lines, assert_same, reported};
 use std::alloc::{AllocError, Global};
 use std::process::Abort;
 use std::sync::Wait;
 use std::sync::atomic::{AtomicU64, Ordering};
-use std::test::Fail;
 use std::thread;
 use std::thread::Threads;
-use tk_replay::{CheckedReport, Gate, ManyError, NoGate, replay_all, report};
+use tk_replay::{CheckedReport, Gate, ManyError, NoGate, replay_all};
 use tk_script::ScriptError;
 
 /// The result for one script.
@@ -25,11 +24,17 @@ pub(super) fn assert_outcomes<G: Gate + Sync>(
     gate: &G,
     wanted: &Outcomes,
 ) {
-    assert_same(
-        rt,
-        &replay_all(rt.alloc(), rt, scripts, workers, gate),
-        wanted,
-    );
+    assert_same(rt, &all_of(rt, scripts, workers, gate), wanted);
+}
+
+/// Returns the reports of all scripts. It states nothing of them.
+fn all_of<G: Gate + Sync>(
+    rt: &(impl AllocGlobal + Threads + Wait + Sync),
+    scripts: &[Vec<u8>],
+    workers: usize,
+    gate: &G,
+) -> Outcomes {
+    replay_all(rt.alloc(), rt, scripts, workers, gate)
 }
 
 /// Returns a report without differences.
@@ -41,21 +46,27 @@ pub(super) fn agreeing(text: Vec<u8>) -> CheckedReport {
 }
 
 /// Returns the reports of all scripts, made one by one.
-pub(super) fn reports_of(alloc: Global, scripts: &[Vec<u8>]) -> Result<Outcomes, Fail> {
-    let mut reports = Vec::new(alloc);
+pub(super) fn reports_of(rt: &(impl Abort + AllocGlobal), scripts: &[Vec<u8>]) -> Outcomes {
+    let mut reports = Vec::new(rt.alloc());
     for script in scripts {
-        reports.push(Ok(agreeing(report(alloc, script.as_slice())?)))?;
+        let text = reported(rt.alloc(), false, script.as_slice()).expect(rt, "a report");
+        reports.push(Ok(agreeing(text))).expect(rt, "memory");
     }
-    Ok(Ok(reports))
+    Ok(reports)
+}
+
+/// Returns a list of these bytes.
+pub(super) fn owned(rt: &(impl Abort + AllocGlobal), bytes: &[u8]) -> Vec<u8> {
+    Vec::from_slice(rt.alloc(), bytes).expect(rt, "memory")
 }
 
 /// Returns this many copies of the script.
-pub(super) fn copies(alloc: Global, count: usize) -> Result<Vec<Vec<u8>>, AllocError> {
-    let mut scripts = Vec::new(alloc);
+pub(super) fn copies(rt: &(impl Abort + AllocGlobal), count: usize) -> Vec<Vec<u8>> {
+    let mut scripts = Vec::new(rt.alloc());
     for _ in 0..count {
-        scripts.push(Vec::from_slice(alloc, SCRIPT)?)?;
+        scripts.push(owned(rt, SCRIPT)).expect(rt, "memory");
     }
-    Ok(scripts)
+    scripts
 }
 
 /// A script whose second record has too few fields.
@@ -76,23 +87,23 @@ fn two_outcomes(alloc: Global) -> Result<Vec<Outcome>, AllocError> {
 }
 
 /// Returns a script with this number of updates.
-fn updates(alloc: Global, count: usize) -> Result<Vec<u8>, AllocError> {
-    let mut script = Vec::from_slice(alloc, b"open,32,16777216,24,0,1700000000,0\n")?;
+fn updates(rt: &(impl Abort + AllocGlobal), count: usize) -> Vec<u8> {
+    let mut script = owned(rt, b"open,32,16777216,24,0,1700000000,0\n");
     for _ in 0..count {
-        script.extend_from_slice(b"update,0\n")?;
+        script.extend_from_slice(b"update,0\n").expect(rt, "memory");
     }
-    Ok(script)
+    script
 }
 
 /// Returns scripts of different lengths: the one at place n has n updates, and every third one has
 /// the most.
-fn uneven(alloc: Global, count: usize) -> Result<Vec<Vec<u8>>, AllocError> {
-    let mut scripts = Vec::new(alloc);
+fn uneven(rt: &(impl Abort + AllocGlobal), count: usize) -> Vec<Vec<u8>> {
+    let mut scripts = Vec::new(rt.alloc());
     for place in 0..count {
         let many = if place % 3 == 0 { 2_000 } else { place };
-        scripts.push(updates(alloc, many)?)?;
+        scripts.push(updates(rt, many)).expect(rt, "memory");
     }
-    Ok(scripts)
+    scripts
 }
 
 /// Holds all pieces until the wanted number has arrived.
@@ -129,10 +140,10 @@ impl Gate for Meeting {
 }
 
 #[test]
-fn all_workers_are_at_work_at_once(rt: HostRuntime) -> Result<(), Fail> {
+fn all_workers_are_at_work_at_once(rt: HostRuntime) {
     for workers in [1, 2, 3, 64] {
-        let scripts = copies(rt.alloc(), workers)?;
-        let wanted = reports_of(rt.alloc(), scripts.as_slice())?;
+        let scripts = copies(&rt, workers);
+        let wanted = reports_of(&rt, scripts.as_slice());
         let gate = Meeting {
             wanted: workers as u64,
             came: AtomicU64::new(0),
@@ -141,7 +152,6 @@ fn all_workers_are_at_work_at_once(rt: HostRuntime) -> Result<(), Fail> {
         assert_outcomes(&rt, scripts.as_slice(), workers, &gate, &wanted);
         assert_same(&rt, &gate.late.load(Ordering::SeqCst), &0);
     }
-    Ok(())
 }
 
 /// Stops the test unless 1 to 64 workers give this result, and any other number is refused.
@@ -159,11 +169,10 @@ fn assert_for_1_to_64(
 }
 
 #[test]
-fn as_many_workers_as_are_asked_for(rt: HostRuntime) -> Result<(), Fail> {
-    let scripts = two(rt.alloc())?;
-    let wanted = Ok(two_outcomes(rt.alloc())?);
-    assert_for_1_to_64(&rt, scripts.as_slice(), &wanted);
-    Ok(())
+fn as_many_workers_as_are_asked_for(rt: HostRuntime) {
+    let scripts = two(rt.alloc()).expect(&rt, "memory");
+    let wanted = two_outcomes(rt.alloc()).expect(&rt, "memory");
+    assert_for_1_to_64(&rt, scripts.as_slice(), &Ok(wanted));
 }
 
 #[test]
@@ -237,7 +246,7 @@ fn assert_called_once(rt: &impl Abort, gate: &Notes, count: usize, workers: usiz
 }
 
 #[test]
-fn reports_stand_in_the_order_of_their_scripts(rt: HostRuntime) -> Result<(), Fail> {
+fn reports_stand_in_the_order_of_their_scripts(rt: HostRuntime) {
     for (count, workers) in [
         (0, 4),
         (1, 4),
@@ -248,13 +257,12 @@ fn reports_stand_in_the_order_of_their_scripts(rt: HostRuntime) -> Result<(), Fa
         (40, 4),
         (40, 64),
     ] {
-        let scripts = uneven(rt.alloc(), count)?;
-        let wanted = reports_of(rt.alloc(), scripts.as_slice())?;
+        let scripts = uneven(&rt, count);
+        let wanted = reports_of(&rt, scripts.as_slice());
         let gate = Notes::new();
         assert_outcomes(&rt, scripts.as_slice(), workers, &gate, &wanted);
         assert_called_once(&rt, &gate, count, workers);
     }
-    Ok(())
 }
 
 /// Stops the test unless the outcome is this one or `Memory`.
@@ -278,7 +286,7 @@ fn many_reports_or_want_of_them(rt: HostRuntime) {
     let alloc = rt.alloc();
     if let (Ok(scripts), Ok(wanted)) = (two(alloc), two_outcomes(alloc)) {
         let gate = Notes::new();
-        match replay_all(alloc, &rt, scripts.as_slice(), 2, &gate) {
+        match all_of(&rt, scripts.as_slice(), 2, &gate) {
             Ok(outcomes) => assert_two(&rt, outcomes.as_slice(), wanted.as_slice()),
             Err(ManyError::Memory) => assert_called_once(&rt, &gate, 0, 0),
             Err(error) => assert_same(&rt, &error, &ManyError::Threads),
@@ -289,10 +297,10 @@ fn many_reports_or_want_of_them(rt: HostRuntime) {
 /// `tests/harness/refuse_tests` runs it with each thread refused in turn, while the threads that
 /// were started are held.
 #[test]
-fn no_script_is_taken_after_a_thread_is_missing(rt: HostRuntime) -> Result<(), Fail> {
-    let scripts = copies(rt.alloc(), 8)?;
+fn no_script_is_taken_after_a_thread_is_missing(rt: HostRuntime) {
+    let scripts = copies(&rt, 8);
     let gate = Notes::new();
-    let taken = match replay_all(rt.alloc(), &rt, scripts.as_slice(), 3, &gate) {
+    let taken = match all_of(&rt, scripts.as_slice(), 3, &gate) {
         Ok(_) => 8,
         Err(error) => {
             assert_same(&rt, &error, &ManyError::Threads);
@@ -300,12 +308,11 @@ fn no_script_is_taken_after_a_thread_is_missing(rt: HostRuntime) -> Result<(), F
         }
     };
     assert_called_once(&rt, &gate, taken, 3);
-    Ok(())
 }
 
 #[test]
-fn states_why_there_are_no_reports(rt: HostRuntime) -> Result<(), Fail> {
+fn states_why_there_are_no_reports(rt: HostRuntime) {
     let errors = [ManyError::Count, ManyError::Memory, ManyError::Threads];
     let texts = "count out of range\nout of memory\ncannot start a thread\n";
-    assert_lines(&rt, errors.as_slice(), texts)
+    assert_lines(&rt, errors.as_slice(), texts);
 }

@@ -4,10 +4,9 @@
 //! the requests for memory between the two marks. Without it neither test can fail by its marks.
 
 use super::many::{assert_outcomes, copies, reports_of};
-use super::{REPORT, SCRIPT, assert_same};
+use super::{REPORT, SCRIPT, assert_same, reported};
 use std::alloc::Global;
-use std::test::Fail;
-use tk_replay::{Gate, report};
+use tk_replay::Gate;
 
 /// Makes one allocation in each call. The library recognizes the call by the request's size.
 #[derive(Drop)]
@@ -27,18 +26,18 @@ impl Gate for Marks {
 
 /// The test makes the first report itself. The library expects as many requests in each later pair.
 #[test]
-fn each_report_is_made_between_the_calls_of_its_gate(rt: HostRuntime) -> Result<(), Fail> {
+fn each_report_is_made_between_the_calls_of_its_gate(rt: HostRuntime) {
     let gate = Marks { alloc: rt.alloc() };
     gate.before(0);
-    let alone = report(rt.alloc(), SCRIPT);
+    let alone = reported(rt.alloc(), false, SCRIPT);
     gate.after(0);
-    assert_same(&rt, &alone?.as_slice(), &REPORT);
-    let scripts = copies(rt.alloc(), 8)?;
-    let wanted = reports_of(rt.alloc(), scripts.as_slice())?;
+    let alone = alone.expect(&rt, "a report");
+    assert_same(&rt, &alone.as_slice(), &REPORT);
+    let scripts = copies(&rt, 8);
+    let wanted = reports_of(&rt, scripts.as_slice());
     for workers in [1, 3, 8] {
         assert_outcomes(&rt, scripts.as_slice(), workers, &gate, &wanted);
     }
-    Ok(())
 }
 
 /// With the library loaded this test must fail, because there is no work between its marks.

@@ -1,17 +1,14 @@
 //! Tests failed allocations: the result is the whole report, or `Memory` and no output.
 
-use super::assert_same;
 use super::fakes::{Turn, Writer};
 use super::traces::{STAMPS, STEERED, traced};
+use super::{assert_same, replayed, reported};
 use std::alloc::Global;
 use std::process::Abort;
 use std::thread::Threads;
 use tk_clock::ClockId;
 use tk_keeper::Timekeeper;
-use tk_replay::{
-    Fault, convert, keeper_after, keeper_of, replay, replay_bounded, report, report_bounded,
-    report_rows,
-};
+use tk_replay::{Fault, convert, keeper_after, keeper_of, report_rows};
 use tk_script::{RowReader, ScriptError, Stamps};
 use tk_test_support::Heap;
 
@@ -42,12 +39,12 @@ fn assert_report(rt: &impl Abort, returned: Result<Vec<u8>, ScriptError>) {
 
 #[test]
 fn report_or_want_of_it(rt: HostRuntime) {
-    assert_report(&rt, report(rt.alloc(), &script()));
+    assert_report(&rt, reported(rt.alloc(), false, &script()));
 }
 
 #[test]
 fn bounded_report_or_want_of_it(rt: HostRuntime) {
-    assert_report(&rt, report_bounded(rt.alloc(), &script(), 1));
+    assert_report(&rt, reported(rt.alloc(), true, &script()));
 }
 
 /// Stops the test unless the whole report was written, or an allocation failed and nothing was
@@ -67,7 +64,7 @@ fn replay_or_want_of_it(rt: HostRuntime) {
     let script = script();
     let mut reader = script.as_slice();
     let mut writer = Writer::new(1000, u32::MAX, Turn::TakesNone);
-    let outcome = replay(rt.alloc(), &mut reader, &mut writer);
+    let outcome = replayed(rt.alloc(), false, &mut reader, &mut writer);
     assert_written(&rt, outcome, &writer);
 }
 
@@ -76,16 +73,16 @@ fn bounded_replay_or_want_of_it(rt: HostRuntime) {
     let script = script();
     let mut reader = script.as_slice();
     let mut writer = Writer::new(1000, u32::MAX, Turn::TakesNone);
-    let outcome = replay_bounded(rt.alloc(), &mut reader, &mut writer, 1);
+    let outcome = replayed(rt.alloc(), true, &mut reader, &mut writer);
     assert_written(&rt, outcome, &writer);
 }
 
 #[test]
 fn there_is_memory(rt: HostRuntime) {
     let script = script();
-    let text = report(rt.alloc(), &script);
+    let text = reported(rt.alloc(), false, &script);
     assert!(rt; text.is_ok());
-    assert_same(&rt, &report_bounded(rt.alloc(), &script, 1), &text);
+    assert_same(&rt, &reported(rt.alloc(), true, &script), &text);
 }
 
 /// A script whose report needs growths of the journal, of the text and of two dates. Its counter
@@ -105,9 +102,18 @@ fn lines<'h>(
     rt: &(impl AllocGlobal + Threads + Sync),
     stamps: &[u8],
 ) -> Result<Vec<u8, &'h Heap<Global>>, Fault> {
-    let keeper = dated_keeper(rt.alloc())?;
+    lines_by(heap, rt, &dated_keeper(rt.alloc())?, stamps)
+}
+
+/// The lines of stamps by this journal, out of the heap.
+fn lines_by<'h>(
+    heap: &'h Heap<Global>,
+    rt: &(impl AllocGlobal + Threads + Sync),
+    keeper: &Timekeeper,
+    stamps: &[u8],
+) -> Result<Vec<u8, &'h Heap<Global>>, Fault> {
     let items = Stamps::from_bytes(rt.alloc(), stamps)?;
-    convert(heap, rt, &keeper, &items, ClockId::Monotonic)
+    convert(heap, rt, keeper, &items, ClockId::Monotonic)
 }
 
 /// The report of `DATED`, out of the heap.
@@ -144,7 +150,7 @@ at,tai,1700086400.000000000\nok,11,0.000000010\n";
 
 /// The text is the report of `DATED`.
 fn assert_dated(rt: &(impl Abort + AllocGlobal), text: &[u8]) {
-    let alone = report(rt.alloc(), DATED);
+    let alone = reported(rt.alloc(), false, DATED);
     assert!(rt; alone.is_ok());
     if let Ok(alone) = alone {
         assert_same(rt, &text, &alone.as_slice());

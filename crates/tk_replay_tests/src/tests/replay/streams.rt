@@ -1,28 +1,10 @@
 use super::fakes::{
     Endless, FAULTS, NEVER, Reader, TURNS, Turn, Writer, assert_taken, assert_write_fault,
 };
-use super::{REPORT, SCRIPT, assert_same};
-use std::alloc::Global;
-use std::io::{ErrorKind, Read, Write};
-use tk_replay::{Fault, replay, replay_bounded};
+use super::{BOTH, REPORT, SCRIPT, assert_same, replayed};
+use std::io::ErrorKind;
+use tk_replay::Fault;
 use tk_script::ScriptError;
-
-/// Replays the script, with a journal that may be folded or with one that may not.
-fn replayed<R: Read, W: Write>(
-    alloc: Global,
-    is_bounded: bool,
-    reader: &mut R,
-    writer: &mut W,
-) -> Result<u64, Fault> {
-    if is_bounded {
-        replay_bounded(alloc, reader, writer, 1)
-    } else {
-        replay(alloc, reader, writer)
-    }
-}
-
-/// Both ways to replay.
-const BOTH: [bool; 2] = [false, true];
 
 #[test]
 fn a_read_that_fails_is_not_tried_again(rt: HostRuntime) {

@@ -6,7 +6,6 @@ use super::fakes::{
 };
 use std::io::Read;
 use std::process::Abort;
-use std::test::Fail;
 use std::thread::Threads;
 use tk_clock::ClockId;
 use tk_replay::{Fault, trace};

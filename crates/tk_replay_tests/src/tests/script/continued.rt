@@ -2,7 +2,6 @@
 use super::super::assert_same;
 use std::alloc::AllocGlobal;
 use std::process::Abort;
-use std::test::Fail;
 use tk_ntp::SteeredNumbers;
 use tk_script::{RowReader, Script, ScriptError, Start};
 
@@ -89,20 +88,19 @@ fn assert_fault(rt: &(impl Abort + AllocGlobal), numbers: &[u8], fault: Option<S
 }
 
 #[test]
-fn continues_steered_clocks(rt: HostRuntime) -> Result<(), Fail> {
+fn continues_steered_clocks(rt: HostRuntime) {
     let bytes = record(&rt, NUMBERS);
-    let script = Script::from_bytes(rt.alloc(), bytes.as_slice())?;
+    let script = Script::from_bytes(rt.alloc(), bytes.as_slice()).expect(&rt, "a script");
     assert_continued(&rt, script.start);
-    Ok(())
 }
 
 #[test]
-fn continues_steered_clocks_by_fields_in_quotes(rt: HostRuntime) -> Result<(), Fail> {
+fn continues_steered_clocks_by_fields_in_quotes(rt: HostRuntime) {
     let mut bytes = record(&rt, NUMBERS);
-    bytes.extend_from_slice(b"\n\"update\",\"9496540211\"\n")?;
-    let script = Script::from_bytes(rt.alloc(), bytes.as_slice())?;
+    let quoted = b"\n\"update\",\"9496540211\"\n";
+    bytes.extend_from_slice(quoted).expect(&rt, "memory");
+    let script = Script::from_bytes(rt.alloc(), bytes.as_slice()).expect(&rt, "a script");
     assert_continued(&rt, script.start);
-    Ok(())
 }
 
 /// Stops the test unless a script continues the clocks of `CLOCKS` with the numbers `NUMBERS`.

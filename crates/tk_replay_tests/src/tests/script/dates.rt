@@ -1,9 +1,8 @@
 use super::assert_same;
-use std::test::Fail;
 use tk_script::utc;
 
 #[test]
-fn writes_the_date_of_a_second(rt: HostRuntime) -> Result<(), Fail> {
+fn writes_the_date_of_a_second(rt: HostRuntime) {
     for (sec, nsec, want) in [
         (0, 0, "1970-01-01T00:00:00.000000000Z"),
         (86_399, 999_999_999, "1970-01-01T23:59:59.999999999Z"),
@@ -13,7 +12,7 @@ fn writes_the_date_of_a_second(rt: HostRuntime) -> Result<(), Fail> {
         (4_107_542_400, 0, "2100-03-01T00:00:00.000000000Z"),
         (9_223_372_035, 999_999_999, "2262-04-11T23:47:15.999999999Z"),
     ] {
-        assert_same(&rt, &utc(rt.alloc(), sec, nsec)?.as_str(), &want);
+        let text = utc(rt.alloc(), sec, nsec).expect(&rt, "memory");
+        assert_same(&rt, &text.as_str(), &want);
     }
-    Ok(())
 }

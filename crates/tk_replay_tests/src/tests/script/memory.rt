@@ -4,7 +4,6 @@
 use super::assert_same;
 use std::alloc::Global;
 use std::process::Abort;
-use std::test::Fail;
 use tk_clock::{ClockId, Refusal, Timespec};
 use tk_counter::CounterDesc;
 use tk_ntp::{Reply, TimeState, Timex};
@@ -59,7 +58,7 @@ fn writes_utc_or_nothing(rt: HostRuntime) {
 }
 
 /// One line of a report.
-#[derive(Drop)]
+#[derive(Clone, Copy)]
 enum Line {
     Open(CounterDesc),
     Accepted,
@@ -119,8 +118,8 @@ fn assert_line_or_nothing(rt: &(impl Abort + AllocGlobal), line: &Line, whole: &
 }
 
 #[test]
-fn writes_a_line_or_nothing(rt: HostRuntime) -> Result<(), Fail> {
-    let desc = CounterDesc::new(32, 3_869_339_906, 32)?;
+fn writes_a_line_or_nothing(rt: HostRuntime) {
+    let desc = CounterDesc::new(32, 3_869_339_906, 32).expect(&rt, "a counter");
     let lines: [(Line, &[u8]); 7] = [
         (Line::Open(desc), b"-open,32,3869339906,32\n"),
         (
@@ -147,7 +146,6 @@ fn writes_a_line_or_nothing(rt: HostRuntime) -> Result<(), Fail> {
     for (line, whole) in &lines {
         assert_line_or_nothing(&rt, line, whole);
     }
-    Ok(())
 }
 
 /// Appends the line of a clock at this second.
@@ -236,9 +234,9 @@ fn write_day<'h>(
 }
 
 #[test]
-fn only_the_first_line_of_a_day_asks_for_memory(rt: HostRuntime) -> Result<(), Fail> {
+fn only_the_first_line_of_a_day_asks_for_memory(rt: HostRuntime) {
     let heap = Heap::new(rt.alloc());
-    let mut out = Vec::with_capacity(&heap, LENGTH)?;
+    let mut out = Vec::with_capacity(&heap, LENGTH).expect(&rt, "memory");
     let mut calendar = Calendar::new(&heap);
     for first in [1_700_000_000, 1_700_086_400, 1_700_172_800] {
         write_day(&rt, &heap, &mut calendar, &mut out, first);
@@ -246,5 +244,4 @@ fn only_the_first_line_of_a_day_asks_for_memory(rt: HostRuntime) -> Result<(), F
     assert!(rt;
         out.ends_with(b",2023-11-16T23:59:59.000000000Z\nat,monotonic,1700172800.000000000\n")
     );
-    Ok(())
 }

@@ -1,6 +1,5 @@
 use super::super::assert_same;
 use std::process::Abort;
-use std::test::Fail;
 use tk_script::{RowReader, Script, ScriptError, Start};
 
 /// A 32-bit counter at 1 ns per cycle, whose clocks have accepted 5 commands. The last one was at
@@ -47,10 +46,9 @@ const WRONG: [&[u8]; 12] = [
 ];
 
 #[test]
-fn reads_running_clocks(rt: HostRuntime) -> Result<(), Fail> {
-    let script = Script::from_bytes(rt.alloc(), RUNNING)?;
+fn reads_running_clocks(rt: HostRuntime) {
+    let script = Script::from_bytes(rt.alloc(), RUNNING).expect(&rt, "a script");
     assert_running(&rt, script.start);
-    Ok(())
 }
 
 /// Stops the test unless a script begins from the clocks of `RUNNING`.

@@ -1,34 +1,22 @@
 //! Tests folding under the lock.
-ghost use Rattle.std.specs.Prelude.{◌≡◌};
-
-use super::deeds::{Deed, Two, does};
-use super::{assert_same, both, commanded, glanced, read_by};
+use super::deeds::{Deed, closes, does};
+use super::{assert_same, commanded, fold_by, glanced, read_by};
 use std::process::Abort;
 use std::sync::Wait;
-use std::test::Fail;
 use tk_clock::{Command, Refusal};
 use tk_shared::{Caller, Named, SharedKeeper, Ticker};
 
-/// Folds. Tests need only the caller's number of its contract.
-fn fold_by<L: Named>(
-    rt: &impl Wait,
+#[test]
+fn a_fold_makes_room_again(rt: HostRuntime) {
+    // two steps are more than half the counter's range, and one step isn't
+    does(&rt, rt.alloc(), Ticker::new(0, 3 << 29), Deed::Fills);
+}
+
+pub(super) fn fills<L: Named>(
+    rt: &(impl Wait + Abort),
     keeper: &SharedKeeper<L, Ticker>,
     caller: &mut Caller<L>,
-    keep: u64,
-) -> u64
-    ensures { caller.new.id ≡ caller.old.id }
-{
-    keeper.fold(rt, caller, keep)
-}
-
-#[test]
-fn a_fold_makes_room_again(rt: HostRuntime) -> Result<(), Fail> {
-    // two steps are more than half the counter's range, and one step isn't
-    does(&rt, rt.alloc(), Ticker::new(0, 3 << 29), Deed::Fills)
-}
-
-pub(super) fn fills<L: Named>(rt: &(impl Wait + Abort), two: &mut Two<L>) -> Result<(), Fail> {
-    let (keeper, caller) = (&two.keeper, &mut two.one);
+) {
     let mut is_good = true;
     for number in 1..=1_048_576 {
         let answer = commanded(rt, keeper, caller, Command::Update);
@@ -46,58 +34,51 @@ pub(super) fn fills<L: Named>(rt: &(impl Wait + Abort), two: &mut Two<L>) -> Res
     assert_same(rt, &behind, &Err(Refusal::Behind));
     let accepted = commanded(rt, keeper, caller, Command::Update);
     assert_same(rt, &accepted, &Ok(1_048_577));
-    Ok(())
 }
 
 #[test]
-fn a_fold_keeps_as_many_entries_as_asked(rt: HostRuntime) -> Result<(), Fail> {
-    does(&rt, rt.alloc(), Ticker::new(0, 1_000), Deed::Keeps)
+fn a_fold_keeps_as_many_entries_as_asked(rt: HostRuntime) {
+    does(&rt, rt.alloc(), Ticker::new(0, 1_000), Deed::Keeps);
 }
 
-pub(super) fn keeps<L: Named>(rt: &(impl Wait + Abort), two: &mut Two<L>) -> Result<(), Fail> {
-    let (keeper, caller) = (&two.keeper, &mut two.one);
+pub(super) fn keeps<L: Named>(
+    rt: &(impl Wait + Abort),
+    keeper: &SharedKeeper<L, Ticker>,
+    caller: &mut Caller<L>,
+) {
     for number in 1..=5 {
         let answer = commanded(rt, keeper, caller, Command::Update);
         assert_same(rt, &answer, &Ok(number));
     }
     // the number of entries to keep listed, and the number of folded ones after the call
     for (keep, folded) in [(u64::MAX, 0), (5, 0), (2, 3), (4, 3), (0, 5)] {
-        assert_same(rt, &keeper.fold(rt, caller, keep), &folded);
+        assert_same(rt, &fold_by(rt, keeper, caller, keep), &folded);
         assert_same(rt, &caller.folded(), &folded);
     }
-    Ok(())
 }
 
 #[test]
-fn numbers_and_fronts_go_on_after_a_fold(rt: HostRuntime) -> Result<(), Fail> {
-    does(&rt, rt.alloc(), Ticker::new(0, 1_000), Deed::Fold)
+fn numbers_and_fronts_go_on_after_a_fold(rt: HostRuntime) {
+    let closed = closes(&rt, rt.alloc(), Ticker::new(0, 1_000), Deed::Fold);
+    let counts = (closed.keeper.len(), closed.keeper.folded());
+    assert_same(&rt, &counts, &(4, 2));
 }
 
-pub(super) fn folds<L: Named>(rt: &(impl Wait + Abort), two: Two<L>) -> Result<(), Fail>
-    requires callers { (two.one.id ≡ 0) × (two.other.id ≡ 1) }
-{
-    let Two {
-        alloc,
-        keeper,
-        mut one,
-        mut other,
-    } = two;
-    let first = commanded(rt, &keeper, &mut one, Command::Update);
-    let second = commanded(rt, &keeper, &mut other, Command::Update);
-    let third = commanded(rt, &keeper, &mut one, Command::Update);
-    let folded = fold_by(rt, &keeper, &mut one, 1);
+pub(super) fn folds<L: Named>(
+    rt: &(impl Wait + Abort),
+    keeper: &SharedKeeper<L, Ticker>,
+    one: &mut Caller<L>,
+    other: &mut Caller<L>,
+) {
+    let first = commanded(rt, keeper, one, Command::Update);
+    let second = commanded(rt, keeper, other, Command::Update);
+    let third = commanded(rt, keeper, one, Command::Update);
+    assert_same(rt, &(first, second, third), &(Ok(1), Ok(2), Ok(3)));
+    let folded = fold_by(rt, keeper, one, 1);
     let fronts = (one.front(), other.front());
-    let seen = read_by(rt, &keeper, &mut one).front();
-    let fast = glanced(&keeper, &mut other).is_ok_and(|seen| seen.front() == 3);
-    let fourth = commanded(rt, &keeper, &mut other, Command::Update);
-    let callers = both(alloc, one, other)?;
-    let closed = keeper.close(rt, callers).ok().ok_or("closed")?;
-    assert_same(
-        rt,
-        &(first, second, third, fourth),
-        &(Ok(1), Ok(2), Ok(3), Ok(4)),
-    );
+    let seen = read_by(rt, keeper, one).front();
+    let fast = glanced(keeper, other).is_ok_and(|seen| seen.front() == 3);
     assert_same(rt, &(folded, fronts, seen, fast), &(2, (3, 2), 3, true));
-    assert_same(rt, &(closed.keeper.len(), closed.keeper.folded()), &(4, 2));
-    Ok(())
+    let fourth = commanded(rt, keeper, other, Command::Update);
+    assert_same(rt, &fourth, &Ok(4));
 }

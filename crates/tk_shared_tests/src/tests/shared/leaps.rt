@@ -1,10 +1,9 @@
 //! Tests that no reader sees a leap second without its TAI offset: one thread makes leaps in turn,
 //! and another reads by the page and the latch.
-use super::deeds::{Deed, Two, does};
+use super::deeds::{Deed, does};
 use super::{assert_same, commanded, glanced, read_by};
 use std::process::Abort;
 use std::sync::Wait;
-use std::test::Fail;
 use std::thread::{Threads, join};
 use tk_clock::{Command, Refusal, Snapshot};
 use tk_shared::{Caller, Named, SharedKeeper, Ticker};
@@ -66,21 +65,21 @@ fn reads<L: Named, R: Wait>(
 }
 
 #[test]
-fn no_reader_sees_tai_leap(rt: HostRuntime) -> Result<(), Fail> {
-    does(&rt, rt.alloc(), Ticker::new(0, 1_000), Deed::Leap)
+fn no_reader_sees_tai_leap(rt: HostRuntime) {
+    does(&rt, rt.alloc(), Ticker::new(0, 1_000), Deed::Leap);
 }
 
 pub(super) fn both_act<L: Named + Send + Sync, R: Threads + Wait + Abort + Sync>(
     rt: &R,
-    two: &mut Two<L>,
-) -> Result<(), Fail> {
-    let (keeper, one, other) = (&two.keeper, &mut two.one, &mut two.other);
-    commanded(rt, keeper, one, Command::Tai(37))?;
+    keeper: &SharedKeeper<L, Ticker>,
+    one: &mut Caller<L>,
+    other: &mut Caller<L>,
+) {
+    let answer = commanded(rt, keeper, one, Command::Tai(37));
     let (made, leapt) = join(
         rt,
         move || leaps(rt, keeper, one),
         move || reads(rt, keeper, other),
     );
-    assert_same(rt, &(made, leapt), &(Ok(()), 0));
-    Ok(())
+    assert_same(rt, &(answer, made, leapt), &(Ok(1), Ok(()), 0));
 }

@@ -1,5 +1,4 @@
 //! Tests that reads return while a command holds the lock.
-ghost use Rattle.std.specs.Prelude.{◌≡◌};
 ghost use Rattle.tk_shared.specs.Opening.{IsNamed};
 
 use super::{assert_same, commanded, glanced, open_two, read_by, ready};
@@ -8,7 +7,6 @@ use std::marker::Brand;
 use std::process::Abort;
 use std::sync::Wait;
 use std::sync::atomic::{AtomicU64, Ordering};
-use std::test::Fail;
 use std::thread::{self, Threads, join};
 use tk_clock::{Command, Refusal};
 use tk_now::Look;
@@ -82,15 +80,15 @@ fn reads<L: Named, C: Counter, R: Wait>(
 }
 
 #[test]
-fn reads_are_answered_while_a_command_holds_the_lock(rt: HostRuntime) -> Result<(), Fail> {
+fn reads_are_answered_while_a_command_holds_the_lock(rt: HostRuntime) {
     let inside = AtomicU64::new(0);
     let answered = AtomicU64::new(0);
     let counter = Waits {
         inside: &inside,
         answered: &answered,
     };
-    let prepared = ready(&rt, rt.alloc(), counter, 2)?;
-    beside::<Brand, _>(&rt, rt.alloc(), prepared, &inside, &answered)
+    let prepared = ready(&rt, rt.alloc(), counter, 2);
+    beside::<Brand, _>(&rt, rt.alloc(), prepared, &inside, &answered);
 }
 
 fn beside<'a, L: Named + Send + Sync, R: Threads + Wait + Abort + Sync>(
@@ -99,13 +97,11 @@ fn beside<'a, L: Named + Send + Sync, R: Threads + Wait + Abort + Sync>(
     prepared: Prepared<Waits<'a>>,
     inside: &AtomicU64,
     answered: &AtomicU64,
-) -> Result<(), Fail>
+)
     requires named { IsNamed prepared L.page L.latch L.notice L.name L.parts L.callers }
-    requires two { prepared.callers ≡ 2 }
 {
-    let (keeper, mut one, mut two) = open_two::<L, Waits<'a>>(alloc, prepared)?;
+    let (keeper, mut one, mut two) = open_two::<L, Waits<'a>>(rt, alloc, prepared);
     both_act(rt, &keeper, &mut one, &mut two, inside, answered);
-    Ok(())
 }
 
 /// Lets the second caller read while a command of the first one holds the lock.

@@ -1,18 +1,17 @@
 //! Tests four callers, in a thread each, and every kind of command.
-ghost use Rattle.std.specs.Prelude.{◌≡◌, [], ◌∷◌, length, IfOk};
+ghost use Rattle.tk_shared.specs.Closing.{AreDifferent};
 ghost use Rattle.tk_shared.specs.Opening.{IsNamed};
 
 use super::{
-    OPENED_TIME, assert_same, commanded, glanced, nanosecond_counter, opened, read_by, ready, time,
-    two_of,
+    OPENED_TIME, assert_same, closed, commanded, glanced, last_two, nanosecond_counter, opened,
+    read_by, ready, time,
 };
 use std::alloc::{AllocError, Global};
 use std::marker::Brand;
 use std::process::Abort;
 use std::sync::Wait;
-use std::test::Fail;
 use std::thread::{Threads, join};
-use tk_clock::{Command, Refusal, Snapshot};
+use tk_clock::{Command, Entry, Refusal, Snapshot};
 use tk_keeper::Timekeeper;
 use tk_shared::{Caller, Named, Prepared, SharedKeeper, Ticker};
 
@@ -52,18 +51,13 @@ struct Seen {
     is_good: bool,
 }
 
-/// A caller that has given its commands, and its results.
-type Acted<L> = (Caller<L>, Result<Seen, AllocError>);
-
 /// Gives all commands, with reads between.
 fn all_commands<L: Named, R: Wait>(
     rt: &R,
     alloc: Global,
     keeper: &SharedKeeper<L, Ticker>,
-    mut caller: Caller<L>,
-) -> Acted<L>
-    ensures { result.0.id ≡ caller.id }
-{
+    caller: &mut Caller<L>,
+) -> Seen {
     let mut seen = Seen {
         accepted: 0,
         snapshots: Vec::new(alloc),
@@ -71,7 +65,7 @@ fn all_commands<L: Named, R: Wait>(
     };
     for turn in 0..COMMANDS {
         let (front, mark) = (caller.front(), caller.mark());
-        match commanded(rt, keeper, &mut caller, command_of(turn)) {
+        match commanded(rt, keeper, caller, command_of(turn)) {
             Ok(number) => {
                 let now = (caller.front(), caller.mark());
                 seen.is_good = seen.is_good && front < number && mark < number;
@@ -82,12 +76,13 @@ fn all_commands<L: Named, R: Wait>(
                 seen.is_good = seen.is_good && known && caller.mark() == mark;
             }
         }
-        if turn % READ_EVERY == 0 && reads_both(rt, keeper, &mut caller, &mut seen).is_err() {
-            return (caller, Err(AllocError));
+        if turn % READ_EVERY == 0 && reads_both(rt, keeper, caller, &mut seen).is_err() {
+            seen.is_good = false;
+            break;
         }
     }
     seen.accepted = caller.accepted();
-    (caller, Ok(seen))
+    seen
 }
 
 /// Stores the snapshot of a read, and the snapshot of a fast read if it returns one.
@@ -96,9 +91,7 @@ fn reads_both<L: Named, R: Wait>(
     keeper: &SharedKeeper<L, Ticker>,
     caller: &mut Caller<L>,
     seen: &mut Seen,
-) -> Result<(), AllocError>
-    ensures { caller.new.id ≡ caller.old.id }
-{
+) -> Result<(), AllocError> {
     let front = caller.front();
     let snapshot = read_by(rt, keeper, caller);
     seen.is_good = seen.is_good && front <= snapshot.front() && caller.front() == snapshot.front();
@@ -115,139 +108,131 @@ fn two_callers<L: Named + Send + Sync, R: Threads + Wait + Sync>(
     rt: &R,
     alloc: Global,
     keeper: &SharedKeeper<L, Ticker>,
-    one: Caller<L>,
-    two: Caller<L>,
-) -> (Acted<L>, Acted<L>)
-    ensures one { result.0.0.id ≡ one.id }
-    ensures two { result.1.0.id ≡ two.id }
-{
+    one: &mut Caller<L>,
+    two: &mut Caller<L>,
+) -> (Seen, Seen) {
     join(
         rt,
-        move ||
-            ensures { result.0.id ≡ one.id }
-        { all_commands(rt, alloc, keeper, one) },
-        move ||
-            ensures { result.0.id ≡ two.id }
-        { all_commands(rt, alloc, keeper, two) },
+        move || all_commands(rt, alloc, keeper, one),
+        move || all_commands(rt, alloc, keeper, two),
     )
 }
 
 /// Applies the same journal again, command by command, at the ticker's readings.
-fn applied_again<R: Abort>(rt: &R, alloc: Global, keeper: &Timekeeper) -> Result<Timekeeper, Fail> {
-    let mut again = Timekeeper::open(alloc, nanosecond_counter()?, 0, OPENED_TIME)?;
+fn applied_again<R: Abort>(rt: &R, alloc: Global, keeper: &Timekeeper) -> Timekeeper {
+    let mut again = opened_again(rt, alloc);
     for number in 1..=keeper.len() as u64 {
-        let entry = keeper.entry(number).ok_or("an entry")?;
-        let answer = again.apply(entry.who, entry.reading, entry.cmd);
+        let entry = keeper.entry(number).expect(rt, "an entry");
+        let answer = applied(&mut again, &entry);
         assert_same(rt, &(answer, entry.reading % STEP), &(Ok(number), 0));
     }
-    Ok(again)
+    again
+}
+
+/// Opens clocks as the shared keeper's were opened.
+fn opened_again<R: Abort>(rt: &R, alloc: Global) -> Timekeeper {
+    let desc = nanosecond_counter().expect(rt, "a counter");
+    let again = Timekeeper::open(alloc, desc, 0, OPENED_TIME);
+    again.ok().expect(rt, "a keeper")
+}
+
+/// Applies an entry. Tests need nothing of its contract.
+fn applied(keeper: &mut Timekeeper, entry: &Entry) -> Result<u64, Refusal> {
+    keeper.apply(entry.who, entry.reading, entry.cmd)
 }
 
 /// Checks that every snapshot that was read is the snapshot at its front, and that the clocks of
 /// the journal that was applied again are those of the journal.
-fn agrees<R: Abort>(rt: &R, alloc: Global, keeper: &Timekeeper, seen: &Seen) -> Result<(), Fail> {
-    let again = applied_again(rt, alloc, keeper)?;
+fn agrees<R: Abort>(rt: &R, alloc: Global, keeper: &Timekeeper, seen: &Seen) {
+    let again = applied_again(rt, alloc, keeper);
     assert_same(rt, &again.snapshot().words(), &keeper.snapshot().words());
     for snapshot in seen.snapshots.iter() {
-        let past = again.snapshot_at(snapshot.front()).ok().ok_or("a front")?;
-        assert_same(rt, &past.words(), &snapshot.words());
+        let past = again.snapshot_at(snapshot.front());
+        let words = past.ok().expect(rt, "a front").words();
+        assert_same(rt, &words, &snapshot.words());
     }
-    Ok(())
 }
 
 #[test]
-fn four_callers_share_one_history(rt: HostRuntime) -> Result<(), Fail> {
-    let prepared = ready(&rt, rt.alloc(), Ticker::new(0, STEP), 4)?;
-    four::<Brand, _>(&rt, rt.alloc(), prepared)
+fn four_callers_share_one_history(rt: HostRuntime) {
+    let prepared = ready(&rt, rt.alloc(), Ticker::new(0, STEP), 4);
+    four::<Brand, _>(&rt, rt.alloc(), prepared);
 }
 
 fn four<L: Named + Send + Sync, R: Threads + Wait + Abort + Sync>(
     rt: &R,
     alloc: Global,
     prepared: Prepared<Ticker>,
-) -> Result<(), Fail>
+)
     requires named { IsNamed prepared L.page L.latch L.notice L.name L.parts L.callers }
-    requires four { prepared.callers ≡ 4 }
 {
-    let (keeper, zero, one, two, three) = open_four::<L>(alloc, prepared)?;
-    let shared = &keeper;
-    let (first, second) = join(
-        rt,
-        move ||
-            ensures { (result.0.0.id ≡ zero.id) × (result.1.0.id ≡ one.id) }
-        { two_callers(rt, alloc, shared, zero, one) },
-        move ||
-            ensures { (result.0.0.id ≡ two.id) × (result.1.0.id ≡ three.id) }
-        { two_callers(rt, alloc, shared, two, three) },
-    );
-    let (callers, saw) = gathered(alloc, first, second)?;
-    let closed = keeper.close(rt, callers).ok().ok_or("closed")?;
-    all_agree(rt, alloc, &closed.keeper, &saw)
+    let (keeper, callers) = opened::<L, Ticker>(rt, alloc, prepared);
+    let (callers, saw) = four_act(rt, alloc, &keeper, callers);
+    let closed = closed(rt, keeper, callers);
+    all_agree(rt, alloc, &closed.keeper, &saw);
 }
 
-/// Returns the callers in a vector, and their results.
-fn gathered<L: Named>(
+/// Lets the four callers of a vector act at once. Returns them in a vector, and their results.
+fn four_act<L: Named + Send + Sync, R: Threads + Wait + Abort + Sync>(
+    rt: &R,
     alloc: Global,
-    first: (Acted<L>, Acted<L>),
-    second: (Acted<L>, Acted<L>),
-) -> Result<(Vec<Caller<L>>, [Seen; 4]), Fail>
-    ensures { IfOk result (λ all. all.0.items
-        ≡ first.0.0 ∷ first.1.0 ∷ second.0.0 ∷ second.1.0 ∷ []) }
+    keeper: &SharedKeeper<L, Ticker>,
+    mut callers: Vec<Caller<L>>,
+) -> (Vec<Caller<L>>, [Seen; 4])
+    ensures { AreDifferent result.0.items }
 {
-    let ((zero, zero_saw), (one, one_saw)) = first;
-    let ((two, two_saw), (three, three_saw)) = second;
-    let callers = vec![in alloc; zero, one, two, three]?;
-    let saw = [zero_saw?, one_saw?, two_saw?, three_saw?];
-    Ok((callers, saw))
+    let (mut three, mut two) = last_two(rt, &mut callers);
+    let (mut one, mut zero) = last_two(rt, &mut callers);
+    let saw = all_act(rt, alloc, keeper, &mut zero, &mut one, &mut two, &mut three);
+    (gathered(rt, alloc, zero, one, two, three), saw)
+}
+
+fn all_act<L: Named + Send + Sync, R: Threads + Wait + Sync>(
+    rt: &R,
+    alloc: Global,
+    keeper: &SharedKeeper<L, Ticker>,
+    zero: &mut Caller<L>,
+    one: &mut Caller<L>,
+    two: &mut Caller<L>,
+    three: &mut Caller<L>,
+) -> [Seen; 4] {
+    let ((first, second), (third, fourth)) = join(
+        rt,
+        move || two_callers(rt, alloc, keeper, zero, one),
+        move || two_callers(rt, alloc, keeper, two, three),
+    );
+    [first, second, third, fourth]
+}
+
+/// Returns the callers 0 to 3 in a vector. Since it tests their numbers, the calls before it need
+/// no clause on them.
+fn gathered<L: Named>(
+    rt: &impl Abort,
+    alloc: Global,
+    zero: Caller<L>,
+    one: Caller<L>,
+    two: Caller<L>,
+    three: Caller<L>,
+) -> Vec<Caller<L>>
+    ensures { AreDifferent result.items }
+{
+    assert!(rt; zero.id() == 0);
+    assert!(rt; one.id() == 1);
+    assert!(rt; two.id() == 2);
+    assert!(rt; three.id() == 3);
+    vec![in alloc; zero, one, two, three]
+        .ok()
+        .expect(rt, "memory")
 }
 
 /// Checks that all results of the callers were in order, and that the snapshots belong to the
 /// journal, which contains all accepted commands and no others.
-fn all_agree<R: Abort>(
-    rt: &R,
-    alloc: Global,
-    keeper: &Timekeeper,
-    saw: &[Seen],
-) -> Result<(), Fail> {
+fn all_agree<R: Abort>(rt: &R, alloc: Global, keeper: &Timekeeper, saw: &[Seen]) {
     let mut accepted = 0u64;
     for seen in saw {
         assert!(rt; seen.is_good);
         accepted = accepted.wrapping_add(seen.accepted);
-        agrees(rt, alloc, keeper, seen)?;
+        agrees(rt, alloc, keeper, seen);
     }
     assert_same(rt, &(keeper.len() as u64), &accepted);
-    Ok(())
-}
-
-/// Contains a keeper and its callers 0 to 3.
-type Four<L> = (
-    SharedKeeper<L, Ticker>,
-    Caller<L>,
-    Caller<L>,
-    Caller<L>,
-    Caller<L>,
-);
-
-fn open_four<L: Named>(alloc: Global, prepared: Prepared<Ticker>) -> Result<Four<L>, Fail>
-    requires named { IsNamed prepared L.page L.latch L.notice L.name L.parts L.callers }
-    requires four { prepared.callers ≡ 4 }
-    ensures lower { IfOk result (λ four. (four.1.id ≡ 0) × (four.2.id ≡ 1)) }
-    ensures upper { IfOk result (λ four. (four.3.id ≡ 2) × (four.4.id ≡ 3)) }
-{
-    let (keeper, callers) = opened::<L, Ticker>(alloc, prepared)?;
-    let (zero, one, two, three) = four_of(callers)?;
-    Ok((keeper, zero, one, two, three))
-}
-
-/// Returns the four callers of a vector.
-fn four_of<L: Named>(
-    mut callers: Vec<Caller<L>>,
-) -> Result<(Caller<L>, Caller<L>, Caller<L>, Caller<L>), Fail>
-    requires { length callers.items ≡ 4 }
-    ensures { IfOk result (λ four. callers.items ≡ four.0 ∷ four.1 ∷ four.2 ∷ four.3 ∷ []) }
-{
-    let upper = callers.split_off(2)?;
-    let (zero, one) = two_of(callers)?;
-    let (two, three) = two_of(upper)?;
-    Ok((zero, one, two, three))
 }

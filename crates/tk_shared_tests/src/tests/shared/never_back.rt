@@ -1,9 +1,10 @@
 //! Tests that MONOTONIC never goes back: four threads ask for the time now while two give commands.
 //! No answer is below an earlier answer of any thread.
-ghost use Rattle.std.specs.Prelude.{◌≡◌};
 ghost use Rattle.tk_shared.specs.Opening.{IsNamed};
 
-use super::{assert_same, commanded, opened, ready_on, time};
+use super::{
+    assert_same, commanded, fold_by, last_two, now_by, now_glanced, opened, ready_on, time,
+};
 use std::alloc::Global;
 use std::marker::Brand;
 use std::process::Abort;
@@ -85,9 +86,9 @@ fn asked<L: Named, C: Counter, R: Wait>(
 ) -> Result<Option<Timespec>, ReadError> {
     let clock = ClockId::Monotonic;
     if caller.id() < 2 {
-        return Ok(Some(keeper.now(rt, caller, counter, clock)?));
+        return Ok(Some(now_by(rt, keeper, caller, counter, clock)?));
     }
-    match keeper.now_fast(caller, counter, clock) {
+    match now_glanced(keeper, caller, counter, clock) {
         Ok(time) => Ok(Some(time)),
         Err(NowFault::Refused(refusal)) => Err(refusal),
         Err(_) => Ok(None),
@@ -112,7 +113,7 @@ fn gives_commands<L: Named, C: Counter, R: Wait>(
             }
         }
         if turn % 1_024 == 0 {
-            keeper.fold(rt, caller, 16);
+            fold_by(rt, keeper, caller, 16);
         }
         thread::yield_now();
     }
@@ -142,8 +143,9 @@ fn no_answer_is_below_an_earlier_one(rt: HostRuntime) -> Result<(), Fail> {
     };
     let desc = CounterDesc::new(48, 16_777_216, 24)?;
     let counter = SharedReader::new(rt.alloc(), &board.counter)?;
-    let prepared = ready_on(&rt, rt.alloc(), desc, counter, 6)?;
-    all_play::<Brand, _, _>(&rt, rt.alloc(), prepared, &board)
+    let prepared = ready_on(&rt, rt.alloc(), desc, counter, 6);
+    all_play::<Brand, _, _>(&rt, rt.alloc(), prepared, &board);
+    Ok(())
 }
 
 /// Lets two callers play at once.
@@ -161,24 +163,15 @@ fn two_play<L: Named + Send + Sync, C: Counter, R: Threads + Wait + Sync>(
     );
 }
 
-/// Returns the last two callers of a list, and removes them.
-fn last_two<L: Named>(callers: &mut Vec<Caller<L>>) -> Option<(Caller<L>, Caller<L>)> {
-    Some((callers.pop()?, callers.pop()?))
-}
-
 /// Lets the last four callers play at once.
-fn four_play<L: Named + Send + Sync, C: Counter, R: Threads + Wait + Sync>(
+fn four_play<L: Named + Send + Sync, C: Counter, R: Threads + Wait + Abort + Sync>(
     rt: &R,
     keeper: &SharedKeeper<L, C>,
     mut callers: Vec<Caller<L>>,
     board: &Board,
 ) {
-    let (Some(first), Some(second)) = (last_two(&mut callers), last_two(&mut callers)) else {
-        board.times.fail();
-        return;
-    };
-    let (one, two) = first;
-    let (three, four) = second;
+    let (one, two) = last_two(rt, &mut callers);
+    let (three, four) = last_two(rt, &mut callers);
     let _ = thread::join(
         rt,
         move || two_play(rt, keeper, one, two, board),
@@ -191,28 +184,25 @@ fn all_play<L: Named + Send + Sync, C: Counter, R: Threads + Wait + Abort + Sync
     alloc: Global,
     prepared: Prepared<C>,
     board: &Board,
-) -> Result<(), Fail>
+)
     requires named { IsNamed prepared L.page L.latch L.notice L.name L.parts L.callers }
 {
-    let (keeper, mut callers) = opened::<L, C>(alloc, prepared)?;
-    let (one, two) = last_two(&mut callers).ok_or("two callers")?;
-    six_play(rt, &keeper, one, two, callers, board);
+    let (keeper, callers) = opened::<L, C>(rt, alloc, prepared);
+    six_play(rt, &keeper, callers, board);
     assert_same(rt, &board.times.faults(), &0);
-    Ok(())
 }
 
-/// Lets two callers and the last four of a list play at once.
-fn six_play<L: Named + Send + Sync, C: Counter, R: Threads + Wait + Sync>(
+/// Lets six callers play at once.
+fn six_play<L: Named + Send + Sync, C: Counter, R: Threads + Wait + Abort + Sync>(
     rt: &R,
     keeper: &SharedKeeper<L, C>,
-    one: Caller<L>,
-    two: Caller<L>,
-    others: Vec<Caller<L>>,
+    mut callers: Vec<Caller<L>>,
     board: &Board,
 ) {
+    let (one, two) = last_two(rt, &mut callers);
     let _ = thread::join(
         rt,
         move || two_play(rt, keeper, one, two, board),
-        move || four_play(rt, keeper, others, board),
+        move || four_play(rt, keeper, callers, board),
     );
 }

@@ -1,10 +1,9 @@
 //! Tests one thread that gives commands while another reads the latch.
-use super::deeds::{Deed, Two, does};
+use super::deeds::{Deed, does};
 use super::{assert_same, commanded, glanced, read_by};
 use std::process::Abort;
 use std::sync::Wait;
 use std::sync::atomic::{AtomicU64, Ordering};
-use std::test::Fail;
 use std::thread::{self, Threads, join};
 use tk_clock::{Command, Snapshot};
 use tk_shared::{Caller, Named, SharedKeeper, Ticker};
@@ -72,26 +71,26 @@ fn sees_all<L: Named, R: Wait>(
 }
 
 #[test]
-fn fast_reads_are_whole_while_commands_are_given(rt: HostRuntime) -> Result<(), Fail> {
-    does(&rt, rt.alloc(), Ticker::new(0, STEP), Deed::Glance)
+fn fast_reads_are_whole_while_commands_are_given(rt: HostRuntime) {
+    does(&rt, rt.alloc(), Ticker::new(0, STEP), Deed::Glance);
 }
 
 pub(super) fn glances_beside<L: Named + Send + Sync, R: Threads + Wait + Abort + Sync>(
     rt: &R,
-    two: &mut Two<L>,
-) -> Result<(), Fail> {
+    keeper: &SharedKeeper<L, Ticker>,
+    one: &mut Caller<L>,
+    other: &mut Caller<L>,
+) {
     let ended = AtomicU64::new(0);
-    let (keeper, flag) = (&two.keeper, &ended);
-    let (first, second) = (&mut two.one, &mut two.other);
+    let flag = &ended;
     let (commanded, read) = join(
         rt,
         move || {
-            let is_good = commands(rt, keeper, first);
+            let is_good = commands(rt, keeper, one);
             flag.store(1, Ordering::SeqCst);
             is_good
         },
-        move || glances(rt, keeper, second, flag),
+        move || glances(rt, keeper, other, flag),
     );
     assert_same(rt, &(commanded, read), &(true, true));
-    Ok(())
 }

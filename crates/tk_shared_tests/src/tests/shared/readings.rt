@@ -68,7 +68,7 @@ fn updates_named<L: Named, C: Counter, R: Wait + Abort + AllocGlobal>(
 ) -> Result<(), Fail>
     requires named { IsNamed prepared L.page L.latch L.notice L.name L.parts L.callers }
 {
-    let (keeper, mut callers) = opened::<L, C>(rt.alloc(), prepared)?;
+    let (keeper, mut callers) = opened::<L, C>(rt, rt.alloc(), prepared);
     updates_by(rt, &keeper, callers.as_mut_slice(), wanted)
 }
 
@@ -99,7 +99,7 @@ fn a_counter_that_runs_back_is_refused(rt: HostRuntime) -> Result<(), Fail> {
         first: Some(3_000),
         others: 2_999,
     };
-    let prepared = ready(&rt, rt.alloc(), counter, 1)?;
+    let prepared = ready(&rt, rt.alloc(), counter, 1);
     let refused = Updated {
         answer: Err(Refusal::Behind),
         last: 3_000,
@@ -114,7 +114,7 @@ fn answers_above_the_mask_are_masked(rt: HostRuntime) -> Result<(), Fail> {
         first: Some((1 << 32) + 5),
         others: (1 << 63) + 7,
     };
-    let prepared = ready(&rt, rt.alloc(), counter, 1)?;
+    let prepared = ready(&rt, rt.alloc(), counter, 1);
     updates(&rt, prepared, accepted(7, 2))
 }
 
@@ -122,7 +122,7 @@ fn answers_above_the_mask_are_masked(rt: HostRuntime) -> Result<(), Fail> {
 fn readings_of_48_bits_keep_their_upper_bits(rt: HostRuntime) -> Result<(), Fail> {
     let desc = CounterDesc::new(48, 16_777_216, 24)?;
     let start = (1 << 32) + 5;
-    let prepared = ready_on(&rt, rt.alloc(), desc, Ticker::new(start, 1_000), 1)?;
+    let prepared = ready_on(&rt, rt.alloc(), desc, Ticker::new(start, 1_000), 1);
     let wanted = accepted((1 << 32) + 1_005, 1_000);
     updates(&rt, prepared, wanted)
 }
@@ -131,6 +131,6 @@ fn readings_of_48_bits_keep_their_upper_bits(rt: HostRuntime) -> Result<(), Fail
 fn a_ticker_wraps_at_64_bits(rt: HostRuntime) -> Result<(), Fail> {
     let mut ticker = Ticker::new(u64::MAX - 999, 1_000);
     assert_same(&rt, &(ticker.read(), ticker.read()), &(u64::MAX - 999, 0));
-    let prepared = ready(&rt, rt.alloc(), Ticker::new(u64::MAX - 999, 1_000), 1)?;
+    let prepared = ready(&rt, rt.alloc(), Ticker::new(u64::MAX - 999, 1_000), 1);
     updates(&rt, prepared, accepted(0, 1_000))
 }

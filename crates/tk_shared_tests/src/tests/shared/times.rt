@@ -1,8 +1,7 @@
 //! Tests the time now in one thread, with a counter whose readings are known.
-ghost use Rattle.std.specs.Prelude.{◌≡◌};
 ghost use Rattle.tk_shared.specs.Opening.{IsNamed};
 
-use super::{assert_same, commanded, open_two, ready_on, time};
+use super::{assert_same, commanded, now_by, now_glanced, open_two, ready_on, time};
 use std::alloc::Global;
 use std::marker::Brand;
 use std::process::Abort;
@@ -106,8 +105,9 @@ fn all_turns<R: Wait + Abort>(
     let (first, step) = readings;
     let ticker = SharedTicker::new(first, step);
     let counter = SharedReader::new(alloc, &ticker)?;
-    let prepared = ready_on(rt, alloc, desc, counter, 2)?;
-    all_turns_named::<Brand, _, _, R>(rt, alloc, prepared, &ticker, turns)
+    let prepared = ready_on(rt, alloc, desc, counter, 2);
+    all_turns_named::<Brand, _, _, R>(rt, alloc, prepared, &ticker, turns);
+    Ok(())
 }
 
 fn all_turns_named<L: Named, C: Counter, S: SharedCounter, R: Wait + Abort>(
@@ -116,15 +116,24 @@ fn all_turns_named<L: Named, C: Counter, S: SharedCounter, R: Wait + Abort>(
     prepared: Prepared<C>,
     counter: &S,
     turns: &[Turn],
-) -> Result<(), Fail>
+)
     requires named { IsNamed prepared L.page L.latch L.notice L.name L.parts L.callers }
-    requires two { prepared.callers ≡ 2 }
 {
-    let (keeper, mut one, mut two) = open_two::<L, C>(alloc, prepared)?;
+    let (keeper, mut one, mut two) = open_two::<L, C>(rt, alloc, prepared);
+    takes_turns(rt, &keeper, &mut one, &mut two, counter, turns);
+}
+
+fn takes_turns<L: Named, C: Counter, S: SharedCounter, R: Wait + Abort>(
+    rt: &R,
+    keeper: &SharedKeeper<L, C>,
+    one: &mut Caller<L>,
+    two: &mut Caller<L>,
+    counter: &S,
+    turns: &[Turn],
+) {
     for turn in turns {
-        takes_turn(rt, &keeper, &mut one, &mut two, counter, turn);
+        takes_turn(rt, keeper, one, two, counter, turn);
     }
-    Ok(())
 }
 
 fn takes_turn<L: Named, C: Counter, S: SharedCounter, R: Wait + Abort>(
@@ -138,10 +147,10 @@ fn takes_turn<L: Named, C: Counter, S: SharedCounter, R: Wait + Abort>(
     match turn {
         Turn::Gives(cmd, result) => assert_same(rt, &commanded(rt, keeper, one, *cmd), result),
         Turn::Asks(clock, result) => {
-            assert_same(rt, &keeper.now(rt, two, counter, *clock), result);
+            assert_same(rt, &now_by(rt, keeper, two, counter, *clock), result);
         }
         Turn::AsksFast(clock, result) => {
-            assert_same(rt, &keeper.now_fast(two, counter, *clock), result);
+            assert_same(rt, &now_glanced(keeper, two, counter, *clock), result);
         }
     }
 }
@@ -152,31 +161,40 @@ fn the_time_now_rises_with_the_hosts_clock(rt: HostRuntime) -> Result<(), Fail> 
     let host = HostCounter::new(&rt, start);
     let desc = CounterDesc::from_hz(64, 1_000_000_000, 600)?;
     let counter = SharedReader::new(rt.alloc(), &host)?;
-    let prepared = ready_on(&rt, rt.alloc(), desc, counter, 2)?;
-    rises::<Brand, _, _, _>(&rt, prepared, &host)
+    let prepared = ready_on(&rt, rt.alloc(), desc, counter, 2);
+    rises::<Brand, _, _, _>(&rt, prepared, &host);
+    Ok(())
 }
 
 fn rises<L: Named, C: Counter, S: SharedCounter, R: Wait + Abort + AllocGlobal>(
     rt: &R,
     prepared: Prepared<C>,
     counter: &S,
-) -> Result<(), Fail>
+)
     requires named { IsNamed prepared L.page L.latch L.notice L.name L.parts L.callers }
-    requires two { prepared.callers ≡ 2 }
 {
-    let (keeper, mut one, mut two) = open_two::<L, C>(rt.alloc(), prepared)?;
+    let (keeper, mut one, mut two) = open_two::<L, C>(rt, rt.alloc(), prepared);
+    rises_by(rt, &keeper, &mut one, &mut two, counter);
+}
+
+/// Asks by the page and by the latch in turn, with a command between.
+fn rises_by<L: Named, C: Counter, S: SharedCounter, R: Wait + Abort>(
+    rt: &R,
+    keeper: &SharedKeeper<L, C>,
+    one: &mut Caller<L>,
+    two: &mut Caller<L>,
+    counter: &S,
+) {
     let mut before = 0;
     for _ in 0..1000 {
-        let by_page = nanoseconds(keeper.now(rt, &mut two, counter, ClockId::Monotonic)?);
-        let done = commanded(rt, &keeper, &mut one, Command::Update);
+        let by_page = now_by(rt, keeper, two, counter, ClockId::Monotonic);
+        let done = commanded(rt, keeper, one, Command::Update);
         assert_same(rt, &done.is_ok(), &true);
-        let Ok(by_latch) = keeper.now_fast(&mut two, counter, ClockId::Monotonic) else {
-            return Err("a time by the latch".into());
-        };
-        let by_latch = nanoseconds(by_latch);
+        let by_latch = now_glanced(keeper, two, counter, ClockId::Monotonic);
+        let by_page = nanoseconds(by_page.expect(rt, "a time by the page"));
+        let by_latch = nanoseconds(by_latch.expect(rt, "a time by the latch"));
         assert_same(rt, &(before <= by_page, by_page <= by_latch), &(true, true));
         before = by_latch;
     }
     assert!(rt; 0 < before && before < 60_000_000_000);
-    Ok(())
 }

@@ -1,12 +1,11 @@
 //! Tests two callers that take turns in one thread.
-ghost use Rattle.std.specs.Prelude.{◌≡◌, [], ◌∷◌, IfOk};
+ghost use Rattle.std.specs.Prelude.{◌≡◌, [], ◌∷◌};
 
-use super::deeds::{Deed, Two, does};
-use super::{assert_same, commanded, glanced, read_by, time};
+use super::deeds::{Deed, closes, does};
+use super::{assert_same, closed, commanded, follow_by, glanced, read_by, time};
 use std::alloc::Global;
 use std::process::Abort;
 use std::sync::Wait;
-use std::test::Fail;
 use tk_clock::{ClockId, Command, Refusal, Snapshot, Timespec};
 use tk_keeper::Timekeeper;
 use tk_shared::{Caller, Closed, Counter, Missing, Named, SharedKeeper, Ticker};
@@ -18,33 +17,23 @@ const SET: Command = Command::SetTime(Timespec {
 });
 
 #[test]
-fn a_command_is_read_by_both_and_all_callers_close(rt: HostRuntime) -> Result<(), Fail> {
-    does(&rt, rt.alloc(), Ticker::new(0, 1_000), Deed::Read)
-}
-
-pub(super) fn reads<L: Named>(rt: &(impl Wait + Abort), mut two: Two<L>) -> Result<(), Fail>
-    requires callers { (two.one.id ≡ 0) × (two.other.id ≡ 1) }
-{
-    both_read(rt, &two.keeper, &mut two.one, &mut two.other);
+fn a_command_is_read_by_both_and_all_callers_close(rt: HostRuntime) {
     let Closed {
         keeper,
         mut counter,
-    } = closed_late(rt, two)?;
+    } = closes(&rt, rt.alloc(), Ticker::new(0, 1_000), Deed::Read);
     // it was read at the opening and by each command
-    assert_same(rt, &counter.read(), &3_000);
-    is_journal(rt, &keeper)
+    assert_same(&rt, &counter.read(), &3_000);
+    is_journal(&rt, &keeper);
 }
 
 /// Lets both callers give a command. Both read the first one's.
-fn both_read<L: Named, R: Wait + Abort>(
+pub(super) fn both_read<L: Named, R: Wait + Abort>(
     rt: &R,
     keeper: &SharedKeeper<L, Ticker>,
     one: &mut Caller<L>,
     two: &mut Caller<L>,
-)
-    ensures one { one.new.id ≡ one.old.id }
-    ensures two { two.new.id ≡ two.old.id }
-{
+) {
     let opened = (one.front(), one.mark(), one.accepted());
     let first = commanded(rt, keeper, one, SET);
     let own = read_by(rt, keeper, one);
@@ -73,90 +62,93 @@ fn is_set_between<R: Abort>(
 }
 
 /// Closes with only the first caller, which is refused, and then with both.
-fn closed_late<L: Named>(rt: &impl Wait, two: Two<L>) -> Result<Closed<Ticker>, Fail>
-    requires callers { (two.one.id ≡ 0) × (two.other.id ≡ 1) }
-{
-    let Two {
-        alloc,
-        keeper,
-        one,
-        other,
-    } = two;
+pub(super) fn closed_late<L: Named>(
+    rt: &(impl Wait + Abort),
+    alloc: Global,
+    keeper: SharedKeeper<L, Ticker>,
+    one: Caller<L>,
+    other: Caller<L>,
+) -> Closed<Ticker> {
+    assert!(rt; one.id() == 0);
+    assert!(rt; other.id() == 1);
     let Missing {
         keeper,
         mut callers,
-    } = refused(rt, alloc, keeper, one)?;
-    callers.push(other).ok().ok_or("memory")?;
-    match keeper.close(rt, callers) {
-        Ok(closed) => Ok(closed),
-        Err(_) => Err(Fail::from("not closed")),
-    }
+    } = refused(rt, alloc, keeper, one);
+    callers.push(other).ok().expect(rt, "memory");
+    closed(rt, keeper, callers)
 }
 
 /// Closes with only this caller, which is refused.
 fn refused<L: Named>(
-    rt: &impl Wait,
+    rt: &(impl Wait + Abort),
     alloc: Global,
     keeper: SharedKeeper<L, Ticker>,
     one: Caller<L>,
-) -> Result<Missing<L, Ticker>, Fail>
-    ensures { IfOk result (λ missing. missing.callers.items ≡ one ∷ []) }
+) -> Missing<L, Ticker>
+    ensures { result.callers.items ≡ one ∷ [] }
 {
-    match keeper.close(rt, alone(alloc, one)?) {
-        Ok(_) => Err(Fail::from("a caller is missing")),
-        Err(missing) => Ok(missing),
+    match keeper.close(rt, alone(rt, alloc, one)) {
+        Ok(_) => panic!(rt; "closed without a caller"),
+        Err(missing) => missing,
     }
 }
 
 /// One caller in a vector.
-fn alone<L: Named>(alloc: Global, one: Caller<L>) -> Result<Vec<Caller<L>>, Fail>
-    ensures { IfOk result (λ callers. callers.items ≡ one ∷ []) }
+fn alone<L: Named>(rt: &impl Abort, alloc: Global, one: Caller<L>) -> Vec<Caller<L>>
+    ensures { result.items ≡ one ∷ [] }
 {
-    Ok(vec![in alloc; one].ok().ok_or("memory")?)
+    vec![in alloc; one].ok().expect(rt, "memory")
 }
 
 /// The set, at the first tick, and the update, at the second.
-fn is_journal<R: Abort>(rt: &R, keeper: &Timekeeper) -> Result<(), Fail> {
-    let entry = keeper.entry(1).ok_or("entry 1")?;
+fn is_journal<R: Abort>(rt: &R, keeper: &Timekeeper) {
+    let entry = keeper.entry(1).expect(rt, "entry 1");
     assert_same(rt, &(entry.who, entry.reading, entry.cmd), &(0, 1_000, SET));
-    let entry = keeper.entry(2).ok_or("entry 2")?;
+    let entry = keeper.entry(2).expect(rt, "entry 2");
     assert_same(
         rt,
         &(entry.who, entry.reading, entry.cmd),
         &(1, 2_000, Command::Update),
     );
     assert_same(rt, &keeper.len(), &2);
-    Ok(())
 }
 
 #[test]
-fn a_fast_read_finds_what_another_caller_did(rt: HostRuntime) -> Result<(), Fail> {
-    does(&rt, rt.alloc(), Ticker::new(0, 1_000), Deed::ReadFast)
+fn a_fast_read_finds_what_another_caller_did(rt: HostRuntime) {
+    does(&rt, rt.alloc(), Ticker::new(0, 1_000), Deed::ReadFast);
 }
 
-pub(super) fn reads_fast<L: Named>(rt: &(impl Wait + Abort), two: &mut Two<L>) -> Result<(), Fail> {
-    let (keeper, one, two) = (&two.keeper, &mut two.one, &mut two.other);
+pub(super) fn reads_fast<L: Named>(
+    rt: &(impl Wait + Abort),
+    keeper: &SharedKeeper<L, Ticker>,
+    one: &mut Caller<L>,
+    two: &mut Caller<L>,
+) {
     let first = commanded(rt, keeper, one, SET);
-    let own = glanced(keeper, one).ok().ok_or("read")?;
-    let others = glanced(keeper, two).ok().ok_or("read")?.front();
+    let own = glanced(keeper, one).expect(rt, "a read");
+    let others = glanced(keeper, two).expect(rt, "a read").front();
     let known = (one.front(), two.front(), two.mark());
     let second = commanded(rt, keeper, two, Command::Update);
     let marks = (one.mark(), two.mark());
     is_set_between(rt, (first, second), &own, others);
     assert_same(rt, &(known, marks), &((1, 0, 1), (1, 2)));
-    Ok(())
 }
 
 #[test]
-fn a_caller_that_follows_knows_what_another_one_did(rt: HostRuntime) -> Result<(), Fail> {
-    does(&rt, rt.alloc(), Ticker::new(0, 1_000), Deed::Follow)
+fn a_caller_that_follows_knows_what_another_one_did(rt: HostRuntime) {
+    does(&rt, rt.alloc(), Ticker::new(0, 1_000), Deed::Follow);
 }
 
-pub(super) fn follows<L: Named>(rt: &(impl Wait + Abort), two: &mut Two<L>) -> Result<(), Fail> {
-    let (keeper, one, two) = (&two.keeper, &mut two.one, &mut two.other);
+pub(super) fn follows<L: Named>(
+    rt: &(impl Wait + Abort),
+    keeper: &SharedKeeper<L, Ticker>,
+    one: &mut Caller<L>,
+    two: &mut Caller<L>,
+) {
     let first = commanded(rt, keeper, one, SET);
     let before = (two.front(), two.mark());
-    keeper.follow(rt, two, one);
+    follow_by(rt, keeper, two, one);
     let after = (two.front(), two.mark(), two.accepted());
     let other = (one.front(), one.mark(), one.accepted());
     assert_same(
@@ -168,5 +160,4 @@ pub(super) fn follows<L: Named>(rt: &(impl Wait + Abort), two: &mut Two<L>) -> R
     let second = commanded(rt, keeper, two, Command::Update);
     let last = read_by(rt, keeper, one).last();
     assert_same(rt, &(second, last), &(Ok(2), 2_000));
-    Ok(())
 }
