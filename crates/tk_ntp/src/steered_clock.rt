@@ -3,6 +3,7 @@ ghost use Rattle.std.specs.Prelude.{◌≡◌, ◌≤◌, ◌*ℤ◌, ◌≤ℤ�
 mod advancing;
 mod asking;
 mod numbers;
+mod pulses;
 mod uptime;
 
 use crate::course::Course;
