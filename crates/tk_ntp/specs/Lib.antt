@@ -34,3 +34,7 @@ pub mod Followed
 pub mod Numbers
 pub mod Restored
 pub mod ChangeCounter
+pub mod Pps
+pub mod Pulse
+pub mod PpsReply
+pub mod Pulsed

@@ -8,6 +8,7 @@ mod commanding;
 mod due;
 mod following;
 mod giving;
+mod pulses;
 mod ticking;
 mod turning;
 

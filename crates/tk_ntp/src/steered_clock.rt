@@ -4,6 +4,7 @@ mod advancing;
 mod asking;
 mod change_counter;
 mod numbers;
+mod pulses;
 mod uptime;
 
 use crate::course::Course;
