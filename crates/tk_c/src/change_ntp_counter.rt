@@ -1,6 +1,6 @@
 //! Changes the counter of steered clocks that count their commands.
 ghost use Rattle.std.specs.Prelude.{◌≡◌};
-ghost use Rattle.tk_c.specs.ChangeNtpCounter.{IsNtpOver, IsOver, IsOverBegun};
+ghost use Rattle.tk_c.specs.ChangeNtpCounter.{IsNtpOver, IsOver, IsOverAsleep, IsOverAwake, IsOverBegun};
 ghost use Rattle.tk_c.specs.CountedNtp.{whole};
 
 use crate::code::code_of_call;
@@ -43,13 +43,40 @@ fn change(ntp: &mut CountedNtp, reading: u64, desc: CounterDesc, first: u64) -> 
     if first > desc.mask() {
         return Err(Refusal::Invalid);
     }
-    let now = ntp.clocks.clock.snapshot(0);
-    if !now.asleep() {
-        ntp.course.advance(&mut ntp.clocks, false, 0, reading)?;
-    } else if reading > now.desc().mask() {
+    if ntp.clocks.clock.snapshot(0).asleep() {
+        return change_asleep(ntp, reading, desc, first);
+    }
+    change_awake(ntp, reading, desc, first)
+}
+
+/// Changes the counter of clocks that are asleep.
+fn change_asleep(
+    ntp: &mut CountedNtp,
+    reading: u64,
+    desc: CounterDesc,
+    first: u64,
+) -> Result<(), Refusal>
+    ensures { IsOverAsleep (whole ntp.old) reading desc first result (whole ntp.new) }
+{
+    if reading > ntp.clocks.clock.snapshot(0).desc().mask() {
         return Err(Refusal::Invalid);
     }
     turn_over(ntp, reading, desc, first)
+}
+
+/// Changes the counter of clocks that are awake, after the seconds up to `reading` have begun.
+fn change_awake(
+    ntp: &mut CountedNtp,
+    reading: u64,
+    desc: CounterDesc,
+    first: u64,
+) -> Result<(), Refusal>
+    ensures { IsOverAwake (whole ntp.old) reading desc first result (whole ntp.new) }
+{
+    match ntp.course.advance(&mut ntp.clocks, false, 0, reading) {
+        Ok(()) => turn_over(ntp, reading, desc, first),
+        Err(refusal) => Err(refusal),
+    }
 }
 
 /// Changes the counter of clocks whose seconds up to `reading` have begun.
