@@ -1,0 +1,163 @@
+use crate::fault::Fault;
+use crate::text::Text;
+use crate::{plain, steered};
+use tk_clock::{Snapshot, Timespec};
+use tk_counter::CounterDesc;
+use tk_ntp::{Course, SteeredClock};
+use tk_report::{CountedClocks, PlainStart};
+use tk_script::{Line, Row, Start, is_line, row_in, start_in};
+
+/// The parts of a second of a discipline that steers no clocks.
+const USUAL_HZ: u32 = 100;
+
+/// The first byte of a byte order mark.
+const MARK: u8 = 0xef;
+
+/// Carries out the records of a script one at a time, and makes their lines of its report.
+///
+/// The records are those of a script without quotes: its lines, without their line feeds. A report of
+/// the whole script has the lines that `open` and `record` return, one after the other.
+#[repr(C)]
+#[derive(Clone, Copy)]
+pub struct Session {
+    /// Contains the clocks.
+    clocks: CountedClocks,
+    /// Contains the course of the discipline that steers the clocks, if one does.
+    course: Course,
+    /// Contains the number of records so far, the opening included.
+    records: u64,
+    /// Contains the number of lines `differs,RECORD,VALUE` so far.
+    differences: u64,
+    /// Says whether a discipline steers the clocks.
+    is_steered: bool,
+}
+
+impl Session {
+    /// Opens a session with the first record of a script, and returns it with the record's line.
+    ///
+    /// # Errors
+    ///
+    /// - `NotPlain`: the record is not a plain line
+    /// - `Script`: the fault `Opening`, `Fields` or `Number` of the record; an empty record is not
+    ///   a valid opening
+    pub fn open(record: &[u8]) -> Result<(Session, Text), Fault>
+    {
+        if !is_line(record) || record.first() == Some(&MARK) {
+            return Err(Fault::NotPlain);
+        }
+        let start = start_in(record).map_err(Fault::Script)?;
+        let session = Session::begin(start);
+        let text = Text::of(&Line::open(&session.snapshot().desc()));
+        Ok((session, text))
+    }
+
+    /// Begins with the clocks of a script.
+    fn begin(start: Start) -> Session
+    {
+        match start {
+            Start::Opened(opening) => {
+                Session::of_plain(CountedClocks::begin(PlainStart::Opened(opening), None))
+            }
+            Start::Running { clock, front } => {
+                let start = PlainStart::Running { clock, front };
+                Session::of_plain(CountedClocks::begin(start, None))
+            }
+            Start::Steered { opening, hz } => {
+                let clock = SteeredClock::open(opening.desc, opening.reading, opening.real, hz);
+                Session::of_steered(clock.unwrap(), 0)
+            }
+            Start::Continued { clock, front } => Session::of_steered(clock, front),
+        }
+    }
+
+    /// Begins with clocks that no discipline steers.
+    fn of_plain(clocks: CountedClocks) -> Session
+    {
+        let course = idle_course(clocks.snapshot().desc());
+        Session {
+            clocks,
+            course,
+            records: 1,
+            differences: 0,
+            is_steered: false,
+        }
+    }
+
+    /// Begins with clocks that a discipline steers.
+    fn of_steered(clock: SteeredClock, front: u64) -> Session
+    {
+        Session {
+            clocks: CountedClocks::of(clock.clock(), front),
+            course: clock.course(),
+            records: 1,
+            differences: 0,
+            is_steered: true,
+        }
+    }
+
+    /// Carries out the next record, and returns its lines: the line of the record, and that of the
+    /// expected value which a read does not give. An empty line is no record: it has no line and
+    /// changes nothing.
+    ///
+    /// # Errors
+    ///
+    /// - `NotPlain`: the record is not a plain line
+    /// - `TooMany`: no more records can be counted
+    /// - `Script`: the fault `Word`, `Fields`, `Number` or `Counter` of the record
+    pub fn record(&mut self, record: &[u8]) -> Result<Text, Fault>
+    {
+        if !is_line(record) {
+            return Err(Fault::NotPlain);
+        }
+        if record.is_empty() {
+            return Ok(Text::new());
+        }
+        if self.records == u64::MAX {
+            return Err(Fault::TooMany);
+        }
+        let number = self.records + 1;
+        let row = row_in(number, record).map_err(Fault::Script)?;
+        let (mut text, missed) = self.tell(row);
+        self.records = number;
+        if let Some(value) = missed {
+            text.add(&Line::differs(number, value));
+            self.differences += 1;
+        }
+        Ok(text)
+    }
+
+    /// Carries out a row.
+    fn tell(&mut self, row: Row) -> (Text, Option<u64>)
+    {
+        if self.is_steered {
+            steered::tell(&mut self.clocks, &mut self.course, row)
+        } else {
+            plain::tell(&mut self.clocks, row)
+        }
+    }
+
+    /// Returns a snapshot of the clocks after the last record.
+    pub fn snapshot(&self) -> Snapshot
+    {
+        self.clocks.snapshot()
+    }
+
+    /// Returns the number of records so far, the opening included.
+    pub fn records(&self) -> u64
+    {
+        self.records
+    }
+
+    /// Returns the number of reads so far that did not give the value that their record states.
+    pub fn differences(&self) -> u64
+    {
+        self.differences
+    }
+}
+
+/// Returns the course of a discipline that steers no clocks.
+fn idle_course(desc: CounterDesc) -> Course
+{
+    let epoch = Timespec { sec: 0, nsec: 0 };
+    SteeredClock::open(desc, 0, epoch, USUAL_HZ).unwrap().course()
+}
