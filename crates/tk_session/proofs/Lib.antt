@@ -1,1 +1,3 @@
+pub mod Never
 pub mod Simulated
+pub mod Called

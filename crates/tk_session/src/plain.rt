@@ -1,7 +1,11 @@
 //! Carries out a record of clocks that no discipline steers.
-ghost use Rattle.std.specs.Prelude.{◌≡◌, ◌≤◌, length};
-ghost use Rattle.tk_clock.specs.Snapshot.{snapshot_of};
+ghost use Rattle.std.specs.Prelude.{◌≡◌, ◌≤◌, ℕ, length, None};
 ghost use Rattle.tk_clock.specs.Journal.{Journal};
+ghost use Rattle.tk_clock.specs.Refusal.{first_refusal};
+ghost use Rattle.tk_clock.specs.Run.{Reply};
+ghost use Rattle.tk_clock.specs.Snapshot.{snapshot_of};
+ghost use Rattle.tk_report.specs.CountedClocks.{IsReplied};
+ghost use Rattle.tk_report.specs.Report.{event, reply_by, reply_line};
 ghost use Rattle.tk_session.specs.Told.{ForKept, IsLooked, IsToldPlain};
 
 use crate::text::Text;

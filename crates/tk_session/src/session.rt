@@ -1,6 +1,13 @@
+ghost use Rattle.std.specs.Prelude.{◌≡◌, ◌+◌, ◌≤◌, length, true, false, IsSome, MatchResult};
+ghost use Rattle.tk_clock.specs.Limits.{listed_most};
+ghost use Rattle.tk_ntp.specs.Course.{course_of};
+ghost use Rattle.tk_script.specs.Start.{IsOpenable};
+ghost use Rattle.tk_session.specs.Session as spec;
+
 use crate::fault::Fault;
 use crate::text::Text;
 use crate::{plain, steered};
+use std::marker::Model;
 use tk_clock::{Snapshot, Timespec};
 use tk_counter::CounterDesc;
 use tk_ntp::{Course, SteeredClock};
@@ -32,6 +39,30 @@ pub struct Session {
     is_steered: bool,
 }
 
+impl Model for Session {
+    ghost use Rattle.tk_session.specs.Session.{Session};
+
+    ghost Value = { Session };
+
+    ghost view = { λ a. record {
+      clocks = a.clocks;
+      course = a.course;
+      is_steered = a.is_steered;
+      records = a.records;
+      differences = a.differences;
+    } };
+
+    ghost invariant = { λ a. a.differences ≤ a.records };
+
+    ghost inverse = { λ s. record {
+      clocks = s.clocks;
+      course = s.course;
+      is_steered = s.is_steered;
+      records = s.records;
+      differences = s.differences;
+    } };
+}
+
 impl Session {
     /// Opens a session with the first record of a script, and returns it with the record's line.
     ///
@@ -41,6 +72,9 @@ impl Session {
     /// - `Script`: the fault `Opening`, `Fields` or `Number` of the record; an empty record is not
     ///   a valid opening
     pub fn open(record: &[u8]) -> Result<(Session, Text), Fault>
+        ensures { MatchResult result
+            (λ opened. spec.IsOpenedBy record.now opened.1 opened.0)
+            (λ fault. spec.IsNoOpening record.now fault) }
     {
         if !is_line(record) || record.first() == Some(&MARK) {
             return Err(Fault::NotPlain);
@@ -53,6 +87,10 @@ impl Session {
 
     /// Begins with the clocks of a script.
     fn begin(start: Start) -> Session
+        requires { IsOpenable start }
+        ensures clocks { spec.IsSessionOf result (spec.begun start) }
+        ensures records { result.records ≡ 1 }
+        ensures differences { result.differences ≡ 0 }
     {
         match start {
             Start::Opened(opening) => {
@@ -72,6 +110,10 @@ impl Session {
 
     /// Begins with clocks that no discipline steers.
     fn of_plain(clocks: CountedClocks) -> Session
+        ensures clocks { result.clocks ≡ clocks }
+        ensures steered { result.is_steered ≡ false }
+        ensures records { result.records ≡ 1 }
+        ensures differences { result.differences ≡ 0 }
     {
         let course = idle_course(clocks.snapshot().desc());
         Session {
@@ -85,6 +127,16 @@ impl Session {
 
     /// Begins with clocks that a discipline steers.
     fn of_steered(clock: SteeredClock, front: u64) -> Session
+        ensures clocks { result.clocks ≡ record {
+          clock = clock.clock;
+          count = front;
+          since = front;
+          most = listed_most;
+        } }
+        ensures course { result.course ≡ course_of clock }
+        ensures steered { result.is_steered ≡ true }
+        ensures records { result.records ≡ 1 }
+        ensures differences { result.differences ≡ 0 }
     {
         Session {
             clocks: CountedClocks::of(clock.clock(), front),
@@ -105,6 +157,10 @@ impl Session {
     /// - `TooMany`: no more records can be counted
     /// - `Script`: the fault `Word`, `Fields`, `Number` or `Counter` of the record
     pub fn record(&mut self, record: &[u8]) -> Result<Text, Fault>
+        ensures { MatchResult result
+            (λ text. spec.Takes self.old record.now text self.new)
+            (λ fault. spec.IsRefused (self.old.records + 1) record.now fault
+            × (self.new ≡ self.old)) }
     {
         if !is_line(record) {
             return Err(Fault::NotPlain);
@@ -128,6 +184,12 @@ impl Session {
 
     /// Carries out a row.
     fn tell(&mut self, row: Row) -> (Text, Option<u64>)
+        ensures told { (clocks : spec.Clocks) → spec.IsSessionOf self.old clocks →
+            (later : spec.Clocks) × spec.IsTold clocks row result.0 result.1 later
+            × spec.IsSessionOf self.new later }
+        ensures short { IsSome result.1 → length result.0 ≤ 96 }
+        ensures records { self.new.records ≡ self.old.records }
+        ensures differences { self.new.differences ≡ self.old.differences }
     {
         if self.is_steered {
             steered::tell(&mut self.clocks, &mut self.course, row)
@@ -138,18 +200,22 @@ impl Session {
 
     /// Returns a snapshot of the clocks after the last record.
     pub fn snapshot(&self) -> Snapshot
+        ensures { result
+            ≡ record { front = self.now.clocks.count; base = self.now.clocks.clock.base } }
     {
         self.clocks.snapshot()
     }
 
     /// Returns the number of records so far, the opening included.
     pub fn records(&self) -> u64
+        ensures { result ≡ self.now.records }
     {
         self.records
     }
 
     /// Returns the number of reads so far that did not give the value that their record states.
     pub fn differences(&self) -> u64
+        ensures { result ≡ self.now.differences }
     {
         self.differences
     }

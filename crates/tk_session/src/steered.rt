@@ -1,6 +1,10 @@
 //! Carries out a record of clocks that a discipline steers.
-ghost use Rattle.std.specs.Prelude.{◌≡◌, ◌≤◌, length};
-ghost use Rattle.tk_session.specs.Told.{IsToldSteered};
+ghost use Rattle.std.specs.Prelude.{◌≤◌, length, IsSome, None};
+ghost use Rattle.tk_clock.specs.declared.clock_id.ClockId.TheVariants.{Monotonic};
+ghost use Rattle.tk_keeper.specs.Read.{read_fault};
+ghost use Rattle.tk_report.specs.SteeredReport.{IsAcceptedLine};
+ghost use Rattle.tk_script.specs.declared.row.Row.TheVariants.{Act, Ask};
+ghost use Rattle.tk_session.specs.Told.{ForKept, IsToldSteered};
 
 use crate::plain::look;
 use crate::text::Text;
@@ -19,6 +23,8 @@ pub(crate) fn tell(
     course: &mut Course,
     row: Row,
 ) -> (Text, Option<u64>)
+    ensures told { IsToldSteered clocks.old course.old row result.0 result.1 clocks.new course.new }
+    ensures short { IsSome result.1 → length result.0 ≤ 96 }
 {
     match row {
         Row::Act { reading, cmd } => (apply(clocks, course, reading, cmd), None),
@@ -38,6 +44,7 @@ pub(crate) fn tell(
 
 /// Applies a command, and makes its line.
 fn apply(clocks: &mut CountedClocks, course: &mut Course, reading: u64, cmd: Command) -> Text
+    ensures { IsToldSteered clocks.old course.old (Act reading cmd) result None clocks.new course.new }
 {
     match course.apply(clocks, CALLER, reading, cmd) {
         Ok(()) => Text::of(&accepted(clocks, reading)),
@@ -48,6 +55,8 @@ fn apply(clocks: &mut CountedClocks, course: &mut Course, reading: u64, cmd: Com
 /// Makes the line of an accepted command, with MONOTONIC at its reading. A request for a frequency
 /// or a tick may give no command, so the reading may be after the last command's.
 fn accepted(clocks: &CountedClocks, reading: u64) -> Line
+    ensures { ForKept clocks.now (λ journal. IsAcceptedLine journal reading clocks.now.count
+        (read_fault journal Monotonic reading) result) }
 {
     match clocks.snapshot().get(ClockId::Monotonic, reading) {
         Ok(time) => Line::ok(clocks.count(), time),
@@ -62,6 +71,8 @@ fn answer(
     reading: u64,
     request: &Timex,
 ) -> Text
+    ensures { IsToldSteered clocks.old course.old (Ask reading request.now) result None clocks.new
+        course.new }
 {
     match course.adjtimex(clocks, CALLER, reading, request) {
         Ok(reply) => {
