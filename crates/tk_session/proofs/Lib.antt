@@ -1,3 +1,4 @@
 pub mod Never
 pub mod Simulated
 pub mod Called
+pub mod Reported

@@ -1,3 +1,4 @@
 pub mod Fault
 pub mod Told
 pub mod Session
+pub mod Run

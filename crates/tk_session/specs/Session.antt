@@ -63,7 +63,7 @@ pub record IsCarriedOut (before : Session) (row : Row) (text : List ℕ) (next :
     Type 0 where
   pub line : List ℕ
   pub value : Option ℕ
-  pub text : text ≡ line ++ differs_text (before.records + 1) value
+  pub lines : text ≡ line ++ differs_text (before.records + 1) value
   pub told : (clocks : Clocks) → IsSessionOf before clocks →
       (later : Clocks) × IsTold clocks row line value later × IsSessionOf next later
   pub records : next.records ≡ before.records + 1
@@ -98,6 +98,6 @@ pub record IsOpenedBy (line text : List ℕ) (session : Session) : Type 0 where
   pub start : Start
   pub opening : start_of (cut_at_commas line) ≡ Ok start
   pub clocks : IsSessionOf session (begun start)
-  pub text : text ≡ open_line (journal_at start).opening.counter
+  pub opens : text ≡ open_line (journal_at start).opening.counter
   pub records : session.records ≡ 1
   pub differences : session.differences ≡ 0

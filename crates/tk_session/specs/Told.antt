@@ -30,8 +30,8 @@ IsToldPlain before row line value next = ForKept before (λ journal.
 
 -- clocks and the course of their discipline are those of a journal of steered clocks
 pub record IsKeptOf (clocks : Counted) (course : Course) (kept : SteeredKeeper) : Type 0 where
-  pub kept : IsKept None clocks kept.keeper.journal
-  pub course : course ≡ kept.course
+  pub counts : IsKept None clocks kept.keeper.journal
+  pub leads : course ≡ kept.course
 
 -- what a record tells if a discipline steers the clocks
 abbrev pub IsToldSteered :
