@@ -1,4 +1,5 @@
 pub mod Never
 pub mod Simulated
 pub mod Called
+pub mod Steered
 pub mod Reported
