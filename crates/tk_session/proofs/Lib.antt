@@ -1,5 +1,7 @@
 pub mod Never
 pub mod Simulated
 pub mod Called
-pub mod Steered
+pub mod SteeredCalls
+pub mod Writable
 pub mod Reported
+pub mod Texts

@@ -2,3 +2,4 @@ pub mod Fault
 pub mod Told
 pub mod Session
 pub mod Run
+pub mod Texts

@@ -1,0 +1,113 @@
+-- The records of a text without quotes are its lines, and a session over them makes its report.
+use Rattle.std.proofs.Common.{◌≡◌, ◌∙◌, refl, sym, ap, subst, ℕ, ◌<◌, ◌≤◌, List, [], ◌∷◌, ◌++◌, length, Bool, true, false, inl, inr, arith}
+use Rattle.std.specs.Prelude.{◌||◌, ◌==◌, not, Option, Some, None, Result, Ok, slice_index}
+use Rattle.std.specs.List.{list_any}
+use Rattle.std.proofs.lemmas.List.{append-nil}
+use Rattle.std.proofs.lemmas.List.Folds.{list_any-append}
+use Rattle.csv.specs.Machine.{Read, next_record}
+use Rattle.csv.specs.Reading.{default_config, strip_bom}
+use Rattle.csv.specs.declared.parser.State.TheVariants.{StartRecord}
+use Rattle.memchr.specs.Find.{is_byte, is_byte2, is_byte3}
+use Rattle.tk_clock.specs.Refusal.{first_refusal}
+use Rattle.tk_report.specs.Reports.{IsReportBy}
+use Rattle.tk_script.specs.Grammar.{parse_of}
+use Rattle.tk_script.specs.Plain.{IsFirstLine, IsPlain, Lacks, cut_at_commas, is_plain_line}
+use Rattle.tk_script.specs.Records.{most_bytes, records_after, records_of}
+use Rattle.tk_script.proofs.GrammarLemmas.{parse-small}
+use Rattle.tk_script.proofs.PlainLemmas.{empty-line, first-record, no-mark, or-none}
+use Rattle.tk_script.proofs.RecordLemmas.{records_after-none, records_after-some}
+use Rattle.tk_session.specs.Run.{IsRun, records_in}
+use Rattle.tk_session.specs.Session.{IsOpenedBy, Session}
+use Rattle.tk_session.specs.Texts.{ArePlain, lines_of, text_of}
+use Rattle.tk_session.proofs.Reported.{reported}
+
+not-false : (b : Bool) → not b ≡ true → b ≡ false
+not-false true e = cc e
+not-false false e = refl
+
+-- a plain line lacks each of the three bytes
+lacks-three : (line : List ℕ) → list_any (is_byte3 34 13 10) line ≡ false →
+    Lacks (is_byte2 34 13) line × Lacks (is_byte 10) line
+lacks-three [] e = (refl, refl)
+lacks-three (byte ∷ bytes) e =
+    let parts = or-none (is_byte3 34 13 10 byte) (list_any (is_byte3 34 13 10) bytes) e in
+    let later = lacks-three bytes parts.1 in
+    let two = or-none (byte == 34) (byte == 13 || byte == 10) parts.0 in
+    let one = or-none (byte == 13) (byte == 10) two.1 in
+    (rw (two.0, one.0, later.0) refl, rw (one.1, later.1) refl)
+
+lacks-line : (line : List ℕ) → is_plain_line line ≡ true →
+    Lacks (is_byte2 34 13) line × Lacks (is_byte 10) line
+lacks-line line e = lacks-three line (not-false (list_any (is_byte3 34 13 10) line) e)
+
+plain-text : (lines : List (List ℕ)) (last : List ℕ) → ArePlain lines last →
+    IsPlain (text_of lines last)
+plain-text [] last plain = (lacks-line last plain).0
+plain-text (line ∷ lines) last (plain, later) =
+    let here : list_any (is_byte2 34 13) line ≡ false = (lacks-line line plain).0 in
+    let rest : list_any (is_byte2 34 13) (text_of lines last) ≡ false =
+    plain-text lines last later in
+    list_any-append (is_byte2 34 13) line (10 ∷ text_of lines last) ∙ rw (here, rest) refl
+
+-- equal first records leave equal records
+same-by : (a b : List ℕ) (found : Option Read) →
+    next_record default_config StartRecord [] [] b ≡ found →
+    next_record default_config StartRecord [] [] a ≡ found →
+    records_after StartRecord a ≡ records_after StartRecord b
+same-by a b None eb ea = records_after-none StartRecord a ea ∙ sym (records_after-none StartRecord b eb)
+same-by a b (Some p) eb ea =
+    records_after-some StartRecord a p ea ∙ sym (records_after-some StartRecord b p eb)
+
+nothing-left : next_record default_config StartRecord [] [] [] ≡ None
+unfolding next_record
+nothing-left = refl
+
+last-records : (last : List ℕ) → is_plain_line last ≡ true →
+    records_after StartRecord last ≡ records_in (last ∷ [])
+last-records [] plain = records_after-none StartRecord [] nothing-left
+last-records (byte ∷ bytes) plain =
+    let line = byte ∷ bytes in
+    let lacks = lacks-line line plain in
+    let first : IsFirstLine line line [] =
+    (omega arith, lacks.1, ([], sym (append-nil line), inr (refl, refl))) in
+    let record_is = (first-record line line [] lacks.0 first).0 in
+    records_after-some StartRecord line (cut_at_commas line, StartRecord, []) record_is
+    ∙ ap (λ (rs : List (List (List ℕ))). cut_at_commas line ∷ rs)
+    (records_after-none StartRecord [] nothing-left)
+
+pub records-lines : (lines : List (List ℕ)) (last : List ℕ) → ArePlain lines last →
+    records_after StartRecord (text_of lines last) ≡ records_in (lines_of lines last)
+records-lines [] last plain = last-records last plain
+records-lines ([] ∷ lines) last (plain, later) =
+    let rest = text_of lines last in
+    same-by (10 ∷ rest) rest (next_record default_config StartRecord [] [] rest) refl (empty-line rest)
+    ∙ records-lines lines last later
+records-lines ((byte ∷ bytes) ∷ lines) last (plain, later) =
+    let line = byte ∷ bytes in
+    let rest = text_of lines last in
+    let text = text_of (line ∷ lines) last in
+    let first : IsFirstLine text line rest =
+    (omega arith, (lacks-line line plain).1, (10 ∷ rest, refl, inl refl)) in
+    let record_is = (first-record text line rest (plain-text (line ∷ lines) last (plain, later))
+    first).0 in
+    records_after-some StartRecord text (cut_at_commas line, StartRecord, rest) record_is
+    ∙ ap (λ (rs : List (List (List ℕ))). cut_at_commas line ∷ rs)
+    (records-lines lines last later)
+
+-- the lines of a session are the report of the script whose text consists of its lines. `line` is the
+-- first of them, and no byte order mark begins it
+pub script-reported : (byte : ℕ) (bytes made : List ℕ) (opened : Session)
+    (lines : List (List ℕ)) (last text : List ℕ) (next : Session) →
+    IsOpenedBy (byte ∷ bytes) made opened → IsRun opened (lines_of lines last) text next →
+    ArePlain ((byte ∷ bytes) ∷ lines) last → (byte ≡ 0xEF → ⊥) →
+    length (text_of ((byte ∷ bytes) ∷ lines) last) ≤ most_bytes →
+    IsReportBy first_refusal (text_of ((byte ∷ bytes) ∷ lines) last) (made ++ text)
+    next.differences
+script-reported byte bytes made opened lines last text next begins run plain mark few =
+    let line = byte ∷ bytes in
+    let script = text_of (line ∷ lines) last in
+    let (parse, known, report) = reported line made opened (lines_of lines last) text next begins run in
+    let bare : strip_bom script ≡ script = no-mark script (λ some same. mark same) in
+    let records : records_of script ≡ cut_at_commas line ∷ records_in (lines_of lines last) =
+    ap (λ (t : List ℕ). records_after StartRecord t) bare ∙ records-lines (line ∷ lines) last plain in
+    (parse, parse-small script few ∙ rw records known, report)
