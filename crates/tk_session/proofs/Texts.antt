@@ -32,9 +32,8 @@ lacks-three [] e = (refl, refl)
 lacks-three (byte ∷ bytes) e =
     let parts = or-none (is_byte3 34 13 10 byte) (list_any (is_byte3 34 13 10) bytes) e in
     let later = lacks-three bytes parts.1 in
-    let two = or-none (byte == 34) (byte == 13 || byte == 10) parts.0 in
-    let one = or-none (byte == 13) (byte == 10) two.1 in
-    (rw (two.0, one.0, later.0) refl, rw (one.1, later.1) refl)
+    let two = or-none (byte == 34 || byte == 13) (byte == 10) parts.0 in
+    (rw (two.0, later.0) refl, rw (two.1, later.1) refl)
 
 lacks-line : (line : List ℕ) → is_plain_line line ≡ true →
     Lacks (is_byte2 34 13) line × Lacks (is_byte 10) line
