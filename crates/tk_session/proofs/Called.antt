@@ -282,6 +282,7 @@ module _ (who reading : ℕ) where
       (subst (λ (c : State). MatchOption (reading_refusal reading (seen c before))
       (HasArrivedOr clocks_in HasCounted HasRoom IsShort is_late who reading a before result b after)
       (λ refusal. (result ≡ Err refusal) × (b ≡ a) × (after ≡ before))) s.clock h)
+
   -- a call isn't made for want of room
   unmade-of : (count : ℕ) (a : Counted) (before : Course) (refusal : Refusal) (b : Counted)
       (after : Course) (k : Keeper) → IsOf a k →

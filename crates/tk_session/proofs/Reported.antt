@@ -151,18 +151,16 @@ report-from (Opened opening) rows text lines found opened told =
 report-from (Running clock front) rows text lines found opened told =
     let plain = plain-lines rows (journal_at (Running clock front)) 2 lines found told in
     ((lines, plain.lines, ap (λ (t : List ℕ). t ++ lines) opened), plain.count)
-report-from (Steered opening hz) rows text lines found opened told =
-    (
-      lines,
-      steered-lines rows (steered_from opening hz) 2 lines found told,
-      ap (λ (t : List ℕ). t ++ lines) opened,
-    )
-report-from (Continued clock front) rows text lines found opened told =
-    (
-      lines,
-      steered-lines rows (continued_from clock front) 2 lines found told,
-      ap (λ (t : List ℕ). t ++ lines) opened,
-    )
+report-from (Steered opening hz) rows text lines found opened told = (
+  lines,
+  steered-lines rows (steered_from opening hz) 2 lines found told,
+  ap (λ (t : List ℕ). t ++ lines) opened,
+)
+report-from (Continued clock front) rows text lines found opened told = (
+  lines,
+  steered-lines rows (continued_from clock front) 2 lines found told,
+  ap (λ (t : List ℕ). t ++ lines) opened,
+)
 
 parsed-with : (fields : List (List ℕ)) (later : List (List (List ℕ))) (start : Start)
     (rows : List Row) → start_of fields ≡ Ok start → rows_of 2 later ≡ Ok rows →

@@ -222,8 +222,9 @@ impl Session {
 }
 
 /// Returns the course of a discipline that steers no clocks.
-fn idle_course(desc: CounterDesc) -> Course
-{
+fn idle_course(desc: CounterDesc) -> Course {
     let epoch = Timespec { sec: 0, nsec: 0 };
-    SteeredClock::open(desc, 0, epoch, USUAL_HZ).unwrap().course()
+    SteeredClock::open(desc, 0, epoch, USUAL_HZ)
+        .unwrap()
+        .course()
 }

@@ -18,11 +18,7 @@ const CALLER: u32 = 0;
 
 /// Carries out a record, and returns its line and the expected value that a read does not give, in
 /// ns, if there is one.
-pub(crate) fn tell(
-    clocks: &mut CountedClocks,
-    course: &mut Course,
-    row: Row,
-) -> (Text, Option<u64>)
+pub(crate) fn tell(clocks: &mut CountedClocks, course: &mut Course, row: Row) -> (Text, Option<u64>)
     ensures told { IsToldSteered clocks.old course.old row result.0 result.1 clocks.new course.new }
     ensures short { IsSome result.1 → length result.0 ≤ 96 }
 {
@@ -65,12 +61,7 @@ fn accepted(clocks: &CountedClocks, reading: u64) -> Line
 }
 
 /// Does what a request asks for, and makes the line of its reply.
-fn answer(
-    clocks: &mut CountedClocks,
-    course: &mut Course,
-    reading: u64,
-    request: &Timex,
-) -> Text
+fn answer(clocks: &mut CountedClocks, course: &mut Course, reading: u64, request: &Timex) -> Text
     ensures { IsToldSteered clocks.old course.old (Ask reading request.now) result None clocks.new
         course.new }
 {
