@@ -1,19 +1,19 @@
-use Rattle.std.proofs.Common.{arith, subst, sym}
+use Rattle.std.proofs.Common.{[], arith, subst, sym}
 use Rattle.std.proofs.lemmas.List.{length_push}
 use Rattle.std.proofs.lemmas.Result.{err_from_is_err_and}
-use Rattle.tk_clock.specs.Journal.{Journal}
+use Rattle.tk_keeper.specs.Room.{continued}
 use Rattle.tk_keeper.proofs.Commands.{running-accepted}
 use Rattle.tk_report.specs.CountedClocks.{Counted, IsKept}
-use Rattle.tk_report.specs.Counting.{continued-none}
+use Rattle.tk_report.specs.Counting.{stays}
 use Rattle.tk_report.proofs.counted_clocks.giving.CountedClocksClocks.give.Goals as goal
 
 pub returns-in_err-apply-clause-kept : goal.returns-in_err-apply-clause-kept
 returns-in_err-apply-clause-kept c =
     let p = err_from_is_err_and c.from_residual.result c.from_residual.ensures.1 in
     rw p.1 (λ keep journal kept.
-    let held = subst (λ (k : Counted). IsKept keep k journal) (sym c.self.view_is) kept in
     rw c.in_err-apply.ensures.1
-    (subst (λ (j : Journal). IsKept keep _ j) (sym (continued-none journal)) held))
+    (subst (λ (k : Counted). IsKept keep k (continued [] journal)) (sym c.self.view_is)
+    (stays c.args.self.now keep journal kept)))
 
 pub returns-clause-kept : goal.returns-clause-kept
 returns-clause-kept c = λ keep journal kept.
