@@ -46,6 +46,13 @@ pub(super) fn fills<L: Named>(rt: &(impl Wait + Abort), two: &mut Two<L>) -> Res
     assert_same(rt, &behind, &Err(Refusal::Behind));
     let accepted = commanded(rt, keeper, caller, Command::Update);
     assert_same(rt, &accepted, &Ok(1_048_577));
+    // the other caller knows of no fold before its command
+    let others = commanded(rt, keeper, &mut two.other, Command::Update);
+    assert_same(
+        rt,
+        &(others, two.other.folded()),
+        &(Ok(1_048_578), 1_048_575),
+    );
     Ok(())
 }
 
