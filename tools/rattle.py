@@ -127,17 +127,19 @@ class Crate:
         """Whether a file or folder was made after the crate and those below it were changed."""
         return made.exists() and made.stat().st_mtime > self.changed()
 
-    def archive(self, libraries, backend, target, made):
-        """Compiles a static library into the archive `made`. Proves it once for each target in a
-        folder of libraries, for both backends."""
-        target, checked = f"--target={target}", libraries / f"{self.name}.{target}.checked"
+    def archive(self, libraries, backend, target, made, cpu=None):
+        """Compiles a static library into the archive `made`, for the target's default processor if
+        `cpu` is None. Proves it once for each target and processor in a folder of libraries, for
+        both backends."""
+        checked = libraries / ".".join([self.name, target, *([cpu] if cpu else []), "checked"])
+        compiled_for = [f"--target={target}", *([f"--cpu={cpu}"] if cpu else [])]
         if not self.is_newer(checked):
-            status, said = self.run("check", libraries, f"--jobs={min(processors(), 4)}", target,
-                                    f"-o={checked}")
+            status, said = self.run("check", libraries, f"--jobs={min(processors(), 4)}",
+                                    *compiled_for, f"-o={checked}")
             if status:
                 return status, said
         return self.run("build", libraries, f"--crate-checked={checked}", f"--backend={backend}",
-                        target, f"--toolchain={kit() / 'toolchain'}", f"-o={made}")
+                        *compiled_for, f"--toolchain={kit() / 'toolchain'}", f"-o={made}")
 
     def verdict(self, libraries):
         """Returns the file in which `prove` keeps the line of the prover's verdict."""

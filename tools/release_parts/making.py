@@ -10,6 +10,10 @@ import rattle
 from . import manifest, sources
 
 MACHINES = ("x86_64", "aarch64")
+# the library's texts: the machine, the file, the processor if it isn't the default, and the one call
+# that a text has
+TEXTS = (("x86_64", "tkcore.s", None), ("aarch64", "tkcore.s", None),
+         ("x86_64", "convert_v3.s", "x86-64-v3", "tkc_snapshot_convert"))
 TOOLS = ("c/text", "c/placed.py", "c/unwind/*.py", "release_text/*.py")  # what shapes a text
 LINKING = ("c/module",)  # what shapes a module
 # the crate of each part, and the tools besides
@@ -79,17 +83,17 @@ def begun(part, libraries, maker=("gas", "as")):
 
 
 def library(libraries, out):
-    """Writes the library's text for each machine, and returns the lines of its part."""
+    """Writes the library's texts, and returns the lines of its part."""
     crate = rattle.crates()["tk_c"]
     lines, texts = begun("library", libraries), []
-    for machine in MACHINES:
-        text = out / machine / "tkcore.s"
+    for machine, name, cpu, *call in TEXTS:
+        text = out / machine / name
         text.parent.mkdir(parents=True, exist_ok=True)
         with tempfile.TemporaryDirectory() as room:
             archive = pathlib.Path(room, "libtk_c.a")
             verdict = verdict_of(crate, *crate.archive(
-                libraries, "llvm", f"{machine}-unknown-linux-gnu", archive))
-            run(rattle.ROOT / "tools" / "c" / "text", archive, machine, text)
+                libraries, "llvm", f"{machine}-unknown-linux-gnu", archive, cpu))
+            run(rattle.ROOT / "tools" / "c" / "text", archive, machine, text, *call)
         lines.append(f"{crate.name}: {verdict}")
         texts.append(manifest.line_of(text, f"{machine}/{text.name}"))
     return lines + texts

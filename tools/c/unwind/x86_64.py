@@ -19,7 +19,7 @@ UNKNOWN = re.compile(r"(push|pop)([fw]| WORD| [^r].$| r\d+w)|enter|leave|xchg|xa
                      r"sys|int |iret|lret|loop|xbegin|\(bad\)|\.byte")
 FILLER = re.compile("nop|int3|ud2|xchg ax,ax")
 ENDS = {"ud2", "int3", "hlt"}
-SIZES = {"BYTE": 1, "WORD": 2, "DWORD": 4, "QWORD": 8, "XMMWORD": 16}
+SIZES = {"BYTE": 1, "WORD": 2, "DWORD": 4, "QWORD": 8, "XMMWORD": 16, "YMMWORD": 32}
 ON_STACK = re.compile(r"(\w+) PTR \[rsp(?:([+-]0x[0-9a-f]+))?\]")
 STACK_MOVES = re.compile(r"(sub|add) rsp,(0x[0-9a-f]+)|lea rsp,\[rsp([+-]0x[0-9a-f]+)\]")
 
