@@ -927,7 +927,7 @@ enum tkc_tick {
 	/* A leap second has moved REALTIME. */
 	TKC_TICK_LEAP = 2,
 	/* The clocks have another rate. */
-	TKC_TICK_RATE = 4,
+	TKC_TICK_RATE = 4
 };
 
 /*
