@@ -13,7 +13,7 @@ const SECOND_MOST = 3, REQUEST_MOST = 6;
 
 /** Places in the words of tkc_ntp_save. */
 const IN_FORCE = 2, BITS = 10, MULT = 11, SHIFT = 12, HZ = 15, ASKED_TICK = 24, GAIN = 25,
-    PHASE = 28, LAG_HIGH = 29, LAG_LOW = 30, MARK = 32;
+    PHASE = 28, LAG_HIGH = 29, LAG_LOW = 30, NEXT = 31, MARK = 32;
 const UNITS = 1n << 32n, LEAST_LAG = -(1n << 124n); // of lengths in a nanosecond; words 29 and 30
 
 /** Bits of a request's modes. */
@@ -105,8 +105,10 @@ export class SteeredClocks extends Clocks {
             this.begin(reading);
     }
 
+    /** Returns the number of seconds that begin up to a reading, by the rate of the last command. */
     secondsUntil(reading) {
-        return this.othersAt(this.ntp, this.wordsOf(this.ntp), reading) + 1n;
+        const real = this.library.get(this.snapshot, 'realtime', reading);
+        return real.code ? 1n : real.sec - this.wordsOf(this.ntp)[NEXT] + 1n;
     }
 
     /** Lets each second up to a reading begin. Returns a code. */
