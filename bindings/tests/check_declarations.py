@@ -29,8 +29,9 @@ TYPES = {
 }
 
 
-# Calls for programs in C, which compute with what they store.
-IN_C_ALONE = {"tkc_snapshot_line"}
+# Calls for programs in C: they compute with a line, and a tick is a kernel's. In the packages,
+# `advance_late`, `update` and `snapshot` do what it does.
+IN_C_ALONE = {"tkc_snapshot_line", "tkc_ntp_tick"}
 
 
 def type_of(declared):
