@@ -8,8 +8,7 @@
 #include <string.h>
 #include <unistd.h>
 
-static const char LIBRARY[] = "libtkrun.so", NET_LIBRARY[] = "libtkrun-net.so",
-		  TURNS_LIBRARY[] = "libtkrun-turns.so";
+static const char LIBRARY[] = "libtkrun.so", NET_LIBRARY[] = "libtkrun-net.so";
 
 /* A library, which tools/build_run puts next to the folder of tkrun. */
 static void find_library(const char *name, char *path, size_t size)
@@ -33,21 +32,19 @@ static bool is_own(const char *path)
 {
 	const char *name = basename(path);
 
-	return !strcmp(name, LIBRARY) || !strcmp(name, NET_LIBRARY) ||
-	       !strcmp(name, TURNS_LIBRARY);
+	return !strcmp(name, LIBRARY) || !strcmp(name, NET_LIBRARY);
 }
 
 /* Puts the libraries in front of LD_PRELOAD, without those of a tkrun outside. */
-static void set_preload(const char *turns, const char *library, const char *net)
+static void set_preload(const char *library, const char *net)
 {
 	const char *others = getenv("LD_PRELOAD");
 	char *copy = strdup(others ? others : ""), *end, *name;
-	char *list = malloc(strlen(turns) + strlen(library) + strlen(net) +
-			    strlen(copy ? copy : "") + 4);
+	char *list = malloc(strlen(library) + strlen(net) + strlen(copy ? copy : "") + 3);
 
 	if (!copy || !list)
 		fail(STATUS_FAILED, "out of memory");
-	end = list + sprintf(list, "%s%s%s", turns, *turns ? ":" : "", library);
+	end = stpcpy(list, library);
 	if (*net)
 		end += sprintf(end, ":%s", net);
 	for (name = strtok(copy, " :"); name; name = strtok(NULL, " :")) {
@@ -60,14 +57,12 @@ static void set_preload(const char *turns, const char *library, const char *net)
 	free(copy);
 }
 
-void preload_library(bool has_net, bool has_turns)
+void preload_library(bool has_net)
 {
-	char library[PATH_MAX], net[PATH_MAX] = "", turns[PATH_MAX] = "";
+	char library[PATH_MAX], net[PATH_MAX] = "";
 
 	find_library(LIBRARY, library, sizeof(library));
 	if (has_net)
 		find_library(NET_LIBRARY, net, sizeof(net));
-	if (has_turns)
-		find_library(TURNS_LIBRARY, turns, sizeof(turns));
-	set_preload(turns, library, net);
+	set_preload(library, net);
 }
