@@ -19,14 +19,15 @@ import compare_ntp
 
 TABLES = ["fresh", "frequencies", "pll", "fll", "microseconds", "adjtime", "inserted", "deleted",
           "set", "leaps", "deletions", "errors", "steps", "ticks", "late", "inserted_late", "late_refused",
-          "fronts", "leap_fronts"]
+          "fronts", "kernel_ticks", "leap_fronts"]
 NAMES = {name: getattr(tkcore, name.title().replace("_", "")) for name in
          ("ASLEEP", "AWAKE", "INVALID", "BEHIND", "RANGE", "FURTHER", "NEVER", "BAD_COMMAND")}
 
 
 def rows(table):
-    """Returns the records and the answers of a table of worked_ntp.c."""
-    text = (ROOT / "tests" / "c" / "worked_ntp.c").read_text(encoding="utf-8")
+    """Returns the records and the answers of a table of worked_ntp.c or worked_late_ntp.c."""
+    text = "".join((ROOT / "tests" / "c" / name).read_text(encoding="utf-8")
+                   for name in ("worked_ntp.c", "worked_late_ntp.c"))
     body = re.search(rf"struct ntp_row {table}\[\] = \{{(.*?)\n\}};", text, re.S).group(1)
     return re.findall(r'\{ "([^"]*)",\s+"([^"]*)" \}', body)
 
@@ -88,6 +89,14 @@ class Session:
 
     def next(self):
         return f"next,{self.clock.next_second()}"
+
+    def tick(self, reading):
+        """What tkc_ntp_tick does, and the sum of the bits that it stores."""
+        before = self.clock.save()
+        self.clock.advance_late(reading)
+        self.clock.update(reading)
+        rate, offset, following = ((before[place] != self.clock.save()[place]) for place in (2, 5, 31))
+        return f"tick,{int(following or offset) + 2 * offset + 4 * rate}"
 
     def front(self):
         return f"front,{self.clock.snapshot().front}"
@@ -175,10 +184,17 @@ class Saved(unittest.TestCase):
 
     def refuse_all(self, clock, reading, code):
         """No call at this reading is accepted, and none changes the clocks."""
+        self.refuse(clock, code, lambda: clock.advance(reading),
+                    lambda: clock.advance_late(reading), *self.commands(clock, reading))
+
+    def commands(self, clock, reading):
+        """Returns calls that give the clocks commands."""
+        return (lambda: clock.update(reading), lambda: clock.set_tick(reading, 9000),
+                lambda: clock.adjtimex(reading, Timex(Mode.MAXERROR, maxerror=5)))
+
+    def refuse(self, clock, code, *calls):
         before = clock.save()
-        for call in (lambda: clock.advance(reading), lambda: clock.advance_late(reading),
-                     lambda: clock.update(reading), lambda: clock.set_tick(reading, 9000),
-                     lambda: clock.adjtimex(reading, Timex(Mode.MAXERROR, maxerror=5))):
+        for call in calls:
             raises(self, code, call)
             self.assertEqual(clock.save(), before)
 
@@ -186,11 +202,11 @@ class Saved(unittest.TestCase):
         for reading, code in rows_of("worked_saved_ntp.c", "late_readings"):
             self.refuse_all(self.load({10: 64, 32: 2**60}), reading, code)
 
-    def test_as_many_calls_as_are_counted(self):
+    def test_as_many_commands_as_are_counted(self):
         clock = self.load({0: 2**63 - 2})
-        clock.advance_late(9)
-        for reading in (6, 9):
-            self.refuse_all(clock, reading, "FULL")
+        clock.advance_late(9)           # no second is due, so no command is needed
+        self.refuse(clock, "FULL", *self.commands(clock, 9))
+        self.refuse_all(clock, 6, "BEHIND")
 
 
 class Arguments(unittest.TestCase):

@@ -1,5 +1,6 @@
 // SPDX-License-Identifier: MIT OR Apache-2.0
-//! Steered clocks: the tables of tests/c/worked_ntp.c, and requests of any numbers.
+//! Steered clocks: the tables of tests/c/worked_ntp.c and worked_late_ntp.c, and requests of any
+//! numbers.
 
 mod support;
 
@@ -11,10 +12,15 @@ use tkcore::{Timespec, Timex, Unsteered, NTP_SAVED_WORDS};
 
 /// Returns the records and the answers of all tables, in their order.
 fn rows() -> Vec<(String, String)> {
-    let path = concat!(env!("CARGO_MANIFEST_DIR"), "/../../tests/c/worked_ntp.c");
-    let text = fs::read_to_string(path).expect("the tables");
+    let folder = concat!(env!("CARGO_MANIFEST_DIR"), "/../../tests/c/");
+    let read = |name| fs::read_to_string(format!("{folder}{name}")).expect("the tables");
+    ["worked_ntp.c", "worked_late_ntp.c"].map(read).iter().flat_map(|text| pairs(text)).collect()
+}
+
+/// Returns the texts of a file after the name of the header, in pairs.
+fn pairs(text: &str) -> Vec<(String, String)> {
     let texts: Vec<&str> = text.split('"').skip(1).step_by(2).collect();
-    let pairs = texts[2..].chunks_exact(2);
+    let pairs = texts[1..].chunks_exact(2);
     pairs.map(|pair| (pair[0].to_string(), pair[1].to_string())).collect()
 }
 
@@ -107,11 +113,23 @@ fn answer(clock: &mut Option<SteeredClock>, record: &str) -> Result<String, Refu
         "front" => Ok(format!("front,{}", clock.snapshot().front())),
         "advance" => clock.advance(n[0] as u64).map(done),
         "late" => clock.advance_late(n[0] as u64).map(done),
+        "tick" => tick(clock, n[0] as u64),
         _ => {
             assert_eq!(word, "apply");
             clock.apply(n[0] as u64, command(&n)).map(done)
         }
     }
+}
+
+/// Does what tkc_ntp_tick does, and returns the sum of the bits that it stores.
+fn tick(clock: &mut SteeredClock, reading: u64) -> Result<String, Refusal> {
+    let before = clock.save();
+    clock.advance_late(reading)?;
+    clock.apply(reading, Command::Update)?;
+    let after = clock.save();
+    let [rate, offset, next] = [2, 5, 31].map(|place| before[place] != after[place]);
+    let bits = u32::from(next || offset) + 2 * u32::from(offset) + 4 * u32::from(rate);
+    Ok(format!("tick,{bits}"))
 }
 
 fn command(n: &[i128]) -> Command {
@@ -135,7 +153,7 @@ fn command(n: &[i128]) -> Command {
 #[test]
 fn worked_rows() {
     let rows = rows();
-    assert_eq!(rows.len(), 216);
+    assert_eq!(rows.len(), 232);
     let mut clock = None;
     for (record, wanted) in rows {
         let found = answer(&mut clock, &record).unwrap_or_else(name);

@@ -20,9 +20,14 @@ fn load(changes: &[(usize, u64)]) -> SteeredClock {
 }
 
 fn refuse_all(clock: &mut SteeredClock, reading: u64, refusal: Refusal) {
+    refuse(clock, 0, reading, refusal);
+}
+
+/// Checks that the calls after the first ones are refused. The first two give no command of a caller.
+fn refuse(clock: &mut SteeredClock, first: u32, reading: u64, refusal: Refusal) {
     let before = clock.save();
     let request = Timex { modes: mode::MAXERROR, maxerror: 5, ..Timex::default() };
-    for number in 0..5 {
+    for number in first..5 {
         let found = match number {
             0 => clock.advance(reading).err(),
             1 => clock.advance_late(reading).err(),
@@ -45,10 +50,10 @@ fn readings_before_the_last_account() {
 }
 
 #[test]
-fn as_many_calls_as_are_counted() {
+fn as_many_commands_as_are_counted() {
     let mut clock = load(&[(0, (1 << 63) - 2)]);
+    // no second is due, so no command is needed
     assert_eq!(clock.advance_late(9), Ok(()));
-    for reading in [6, 9] {
-        refuse_all(&mut clock, reading, Refusal::Full);
-    }
+    refuse(&mut clock, 2, 9, Refusal::Full);
+    refuse_all(&mut clock, 6, Refusal::Behind);
 }
