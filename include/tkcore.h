@@ -920,6 +920,26 @@ TKC_MUST_CHECK
 enum tkc_code tkc_ntp_apply(struct tkc_ntp *ntp, uint64_t reading, uint32_t command, int64_t number,
 			    uint32_t nsec);
 
+/*
+ * Lets steered clocks go on over another counter (change_clocksource in kernel/time/timekeeping.c),
+ * whose reading `first` was taken at the same moment as `reading` of the present one, and adds 1 to
+ * the front. First, each second of REALTIME up to the reading begins, as by tkc_ntp_advance; while
+ * the clocks are asleep, none does. tkc_clock_change_counter says what stays. The discipline stays
+ * too, and what the clocks lag behind is carried over, rounded down if the shift of `counter` is
+ * smaller. (Linux drops it.) The next second gets the rate that it needs. A snapshot or a line of
+ * the former counter doesn't take readings of the new one.
+ *
+ * Returns, in this order:
+ *   TKC_INVALID  `first` is above the mask of `counter`: nothing has changed
+ *   as tkc_ntp_advance for the reading; while asleep, only TKC_INVALID
+ *                nothing has changed, except at TKC_FULL
+ *   TKC_FULL     the front is 2^63 - 1 or more: the seconds up to the reading have begun
+ *   TKC_RANGE    as tkc_clock_change_counter: the seconds up to the reading have begun
+ */
+TKC_MUST_CHECK
+enum tkc_code tkc_ntp_change_counter(struct tkc_ntp *ntp, uint64_t reading,
+				     const struct tkc_counter *counter, uint64_t first);
+
 /* What a tick changed: bits of *changed of tkc_ntp_tick. */
 enum tkc_tick {
 	/* A second of REALTIME has begun: also with each leap second. */

@@ -81,6 +81,10 @@ class Session:
         changed = (self.steered.next - following + leap > 0, leap != 0, self.steered.clock.mult() != mult)
         return f"tick,{sum(2**bit for bit, is_so in enumerate(changed) if is_so)}"
 
+    def counter(self, reading, bits, mult, shift, first):
+        self.steered.change_counter(reading, Counter(bits, mult, shift), first)
+        return "ok"
+
     def apply(self, reading, command, number, nsec):
         if command >= len(COMMANDS):
             raise Refused("bad_command")
@@ -136,23 +140,35 @@ class Records:
             return self.request(self.reading(), self.requests.request())
         if pick < 75:
             return f"get,{self.random.choice(list(CLOCKS))},{self.reading()}"
-        if pick < 85:
+        if pick < 84:
             return f"{self.random.choice(['advance', 'late', 'tick', 'tick'])},{self.reading()}"
+        if pick < 85:
+            return self.change()
         return self.command() if pick < 95 else self.random.choice(["next", "asked", "front"])
 
     def request(self, reading, fields):
         return ",".join(map(str, ["adjtimex", reading, *fields]))
 
-    def opening(self):
+    def counter(self):
+        """Numbers of a counter, and a reading of it, seldom one above its mask."""
         bits = self.random.choice([8, 16, 32, 56, 64, 64, 64])
         counter = from_hz(bits, self.random.choice([1, 3, 32_768, 24 * 10**6, 10**9, 2_500_000_000]),
                           self.random.choice([1, 60, 600]))
         if self.random.randrange(3) == 0:
             counter = Counter(bits, self.random.choice([256, 300, 2**20 + 1, 3_869_339_906]), self.random.randrange(33))
         reading = self.random.choice([0, 2**bits - 1, self.random.randrange(2**bits), min(2**bits, 2**64 - 1)])
+        return [bits, counter.mult, counter.shift, reading]
+
+    def change(self):
+        """A change of counter. Half of them go to a counter of 64 bits and 1 GHz, on which most records succeed."""
+        numbers = self.counter() if self.random.randrange(2) else [64, 2**23, 23, self.random.randrange(2**64)]
+        return ",".join(map(str, ["counter", self.reading(), *numbers]))
+
+    def opening(self):
+        bits, mult, shift, reading = self.counter()
         sec = self.random.choice([0, DAY_END - 3, DAY_END - 2, 1_700_000_000, 8_277_292_030, 8_277_292_036])
         hz = self.random.choice(2 * [1, 100, 250, 1000] + [0, 1024, 1025, self.random.randrange(1026)])
-        fields = [bits, counter.mult, counter.shift, reading, sec, self.random.choice([0, 999_999_999]), hz]
+        fields = [bits, mult, shift, reading, sec, self.random.choice([0, 999_999_999]), hz]
         if self.random.randrange(2):
             return ",".join(map(str, ["open", *fields]))
         uptime = [self.random.choice([0, 1, 3_600, sec, sec + 1, 946_079_900, 946_079_999, 946_080_000, -1]),

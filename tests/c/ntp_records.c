@@ -134,6 +134,20 @@ static void apply_command(struct session *session, const struct record *record, 
 				 (uint32_t)n[3]));
 }
 
+/* The session keeps the counter that the clocks run over. */
+static void change_counter(struct session *session, const struct record *record, char *line)
+{
+	const uint64_t *n = record->numbers;
+	struct tkc_counter counter;
+	uint32_t code;
+
+	check(!tkc_counter_new(&counter, (uint32_t)n[1], (uint32_t)n[2], (uint32_t)n[3]));
+	code = tkc_ntp_change_counter(&session->ntp, n[0], &counter, n[4]);
+	if (!code)
+		session->counter = counter;
+	print_code(line, "ok", code);
+}
+
 /* Makes the request of a record, in a struct whose other fields are 0xa5. */
 static struct tkc_timex request_of(const struct record *record)
 {
@@ -257,6 +271,8 @@ void answer(struct session *session, const char *text, char line[LINE_SIZE])
 		tick(session, &record, line);
 	else if (!strcmp(record.word, "apply"))
 		apply_command(session, &record, line);
+	else if (!strcmp(record.word, "counter"))
+		change_counter(session, &record, line);
 	else if (!strcmp(record.word, "adjtimex"))
 		ask(session, &record, line);
 	else if (!strcmp(record.word, "get"))

@@ -143,6 +143,34 @@ static const struct ntp_row kernel_ticks[] = {
 	{ "get,0,9000000000", "at,1483228805.001952648" },
 };
 
+/* Changes of counter: from a shift of 23 to 30, to readings of 32 bits at 1.024 GHz, and asleep. The
+ * seconds before begin first, the lag is carried over, and each change is a command. */
+static const struct ntp_row counters[] = {
+	{ "openhz,64,1000000000,600,0,1700000000,0,250", "open" },
+	{ "adjtimex,0,0x2,0,2162695,0,0,0,0,0,0,0",
+	  "adj,error,1700000000.000000,0,2162695,16000000,16000000,64,2,10000,0" },
+	{ "counter,2500000000,64,1073741824,30,9", "ok" },
+	{ "front", "front,3" },
+	{ "get,1,9", "at,2.500082433" },
+	{ "get,0,9", "at,1700000002.500082433" },
+	{ "next", "next,499901030" },
+	{ "asked", "asked,0,0,64,2162695,10000" },
+	{ "counter,8,32,1000,10,4294967296", "no,TKC_INVALID" },
+	{ "counter,8,32,1000,10,0", "no,TKC_BEHIND" },
+	{ "get,0,600000009", "at,1700000003.100102284" },
+	{ "counter,600000009,32,1000,10,4294967295", "ok" },
+	{ "get,0,4294967295", "at,1700000003.100102284" },
+	{ "next", "next,921495261" },
+	{ "front", "front,5" },
+	{ "apply,4294967295,6,0,0", "ok" },
+	{ "counter,4294967296,64,8388608,23,1", "no,TKC_INVALID" },
+	{ "counter,0,64,8388608,23,77", "ok" },
+	{ "apply,1000000077,7,3,0", "ok" },
+	{ "get,0,1000000077", "at,1700000006.100102284" },
+	{ "front", "front,8" },
+	{ "next", "next,1899868186" },
+};
+
 /* A leap second is one command, and so is each step that leaves the rate. */
 static const struct ntp_row leap_fronts[] = {
 	{ "openhz,64,1000000000,600,0,1483228797,499000000,250", "open" },
@@ -171,5 +199,6 @@ void try_late_ntp(void)
 	try_each(late_refused, try_ntp_row);
 	try_each(fronts, try_ntp_row);
 	try_each(kernel_ticks, try_ntp_row);
+	try_each(counters, try_ntp_row);
 	try_each(leap_fronts, try_ntp_row);
 }

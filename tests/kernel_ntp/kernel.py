@@ -41,11 +41,11 @@ def unpack(folder):
 
 
 @functools.cache
-def compiled(folder, hz):
+def compiled(folder, hz, source="kernel.c"):
     """Compiles the kernel with this many ticks a second. Returns the shared object's path."""
-    out = folder / f"kernel{hz}.so"
+    out = folder / f"{Path(source).stem}{hz}.so"
     paths = [f"-I{folder / path}" for path in ("stand-ins", ".", "include", "include/uapi")]
-    words = ["gcc", *FLAGS, f"-DHZ={hz}", *paths, HERE / "kernel.c", "-o", out]
+    words = ["gcc", *FLAGS, f"-DHZ={hz}", *paths, HERE / source, "-o", out]
     subprocess.run(words, check=True)
     return out
 

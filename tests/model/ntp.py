@@ -5,8 +5,8 @@ discipline in unbounded integers, and stops at the first answer that differs.
     tests/model/ntp.py PROGRAM [COUNT [SEED]]     COUNT is the number of orders, 100,000 if not given
     tests/model/ntp.py < orders                   writes the answers to these orders
 
-The definitions are those of kernel/time/ntp.c, without the boot parameter of the tick and without
-pulse per second. The first lines of the program's source explain orders and answers.
+The definitions are those of kernel/time/ntp.c, without the boot parameter of the tick; pps.py adds pulse
+per second. The first lines of the program's source explain orders and answers.
 """
 import random
 import subprocess
@@ -18,6 +18,8 @@ DAY = 86_400
 OFFSET, FREQUENCY, MAXERROR, ESTERROR, STATUS, TIMECONST = 0x1, 0x2, 0x4, 0x8, 0x10, 0x20
 TAI, SETOFFSET, MICRO, NANO, TICK, ADJTIME, READONLY = 0x80, 0x100, 0x1000, 0x2000, 0x4000, 0x8000, 0x2000
 STA_PLL, STA_FLL, STA_INS, STA_DEL, STA_UNSYNC, STA_FREQHOLD = 0x1, 0x8, 0x10, 0x20, 0x40, 0x80
+STA_PPSFREQ, STA_PPSTIME = 0x2, 0x4
+STA_PPSSIGNAL, STA_PPSJITTER, STA_PPSWANDER, STA_PPSERROR = 0x100, 0x200, 0x400, 0x800
 STA_CLOCKERR, STA_NANO, STA_MODE, STA_RONLY = 0x1000, 0x2000, 0x4000, 0xff00
 ERROR_LIMIT = 16_000_000                            # us
 PPM16 = 65_536_000                                  # 2^-16 ppm of a second, as a length
@@ -31,6 +33,11 @@ def clamp(number, low, high):
 
 def toward_zero(number, divisor):
     return abs(number) // divisor * (1 if number >= 0 else -1)
+
+
+def freq_of(frequency):
+    """A frequency in 2^-16 ppm (PPM_SCALE_INV)."""
+    return toward_zero((frequency >> 19) * 34_359_739, ONE)
 
 
 @dataclass(frozen=True)
@@ -121,6 +128,10 @@ class Discipline:
             self.state = "Ok"
         return 0
 
+    def is_whole(self):
+        """Whether a second corrects the whole offset (ntp_offset_chunk)."""
+        return bool(self.status & STA_PPSTIME and self.status & STA_PPSSIGNAL)
+
     def overflow(self, sec):
         """second_overflow"""
         leap = self.leap(sec)
@@ -128,7 +139,7 @@ class Discipline:
         if self.maxerror > ERROR_LIMIT:
             self.maxerror = ERROR_LIMIT
             self.status |= STA_UNSYNC
-        part = toward_zero(self.offset, 2**(2 + self.constant))
+        part = self.offset if self.is_whole() else toward_zero(self.offset, 2**(2 + self.constant))
         self.offset -= part
         self.length = self.base + part
         if abs(self.adjust) > 500:
@@ -194,8 +205,8 @@ class Discipline:
         return tai
 
     def reply_freq(self):
-        """The frequency in 2^-16 ppm (PPM_SCALE_INV)."""
-        return toward_zero((self.frequency >> 19) * 34_359_739, ONE)
+        """The frequency in 2^-16 ppm."""
+        return freq_of(self.frequency)
 
     def reply(self, offset, sec, nsec, tai):
         """The fields of a reply, from STATE to TAI."""
@@ -225,13 +236,16 @@ class Session:
         if word == "second":
             return [self.begin(*numbers)]
         if word == "clear":
-            self.ntp.clear()
+            self.clear()
             return [f"clear,{self.ntp.second_length()}"]
         return self.ask(*numbers[:2], Timex(*numbers[2:]))
 
     def open(self, hz):
         self.ntp, self.tai = Discipline(hz) if 1 <= hz <= 1024 else None, 0
         return f"new,{self.ntp.second_length()}" if self.ntp else "no"
+
+    def clear(self):
+        self.ntp.clear()
 
     def begin(self, sec):
         leap = self.ntp.overflow(sec)
@@ -318,12 +332,12 @@ class Orders:
         return ",".join(map(str, ("adjtimex", self.sec, self.random.randrange(10**9), *self.request())))
 
 
-def compare(program, count, seed):
-    orders = Orders(seed)
+def compare(program, count, seed, orders=Orders, new_session=Session):
+    orders = orders(seed)
     for first in range(0, count, 100_000):
         some = [orders.next() for _ in range(min(100_000, count - first))]
         said = subprocess.run([program], input="\n".join(some) + "\n", capture_output=True, text=True, check=True)
-        lines, session = iter(said.stdout.splitlines()), Session()
+        lines, session = iter(said.stdout.splitlines()), new_session()
         for order in some:
             for expected in session.answers(order):
                 line = next(lines, None)

@@ -7,7 +7,7 @@ counter, and the length of each second becomes a tick and a frequency.
 from copy import copy
 from dataclasses import dataclass, replace
 
-from model import NANOS, TAI_LIMIT, Counter, is_bad_setting, is_settable, limit, value_of
+from model import LEAST_FREQUENCY, LEAST_TICK, NANOS, TAI_LIMIT, Counter, is_bad_setting, is_settable, limit, value_of
 from ntp import (ADJTIME, ERROR_LIMIT, FREQUENCY, MAX_FREQUENCY, NANO, OFFSET, ONE, PPM16, READONLY, SETOFFSET, TAI,
                  TICK, Discipline, Timex, clamp)
 
@@ -95,6 +95,18 @@ class Clock:
             self.asleep = True
         elif word != "update":
             setattr(self, {"freq": "frequency"}.get(word, word), value)
+
+    def over(self, reading, counter, first):
+        """The clocks over another counter, to whose reading `first` they change at `reading`."""
+        here = replace(self)
+        if not self.asleep:
+            here.do(reading, "update", ())
+        amount, raw = (it << counter.shift >> self.counter.shift for it in (here.amount, here.raw_amount))
+        return replace(here, counter=counter, last=first, amount=amount, raw_amount=raw)
+
+    def is_rated(self):
+        """Whether MONOTONIC_RAW is no further ahead than the slowest rate of the counter allows."""
+        return self.raw_amount * self.counter.multiplier(LEAST_FREQUENCY, LEAST_TICK) <= self.amount * self.counter.mult
 
     def words(self, front):
         """The ten words of the clocks' snapshot."""
@@ -284,6 +296,25 @@ class Steered:
             if t.modes & (OFFSET | FREQUENCY | TICK):
                 self.steer(reading)
         return self.ntp.reply(offset, sec, nsec, self.clock.tai)
+
+    def change_counter(self, reading, counter, first):
+        """Goes on over another counter: the seconds up to `reading` begin first, and the lag is carried over."""
+        old, asleep = self.clock.counter, self.clock.asleep
+        if first >= 2**counter.bits or asleep and reading >= 2**old.bits:
+            raise Refused("invalid")
+        if not asleep:
+            self.advance(reading)
+            if refusal := self.clock.refusal(reading, "update", ()):
+                raise Refused(refusal)
+        after = self.clock.over(reading, counter, first)
+        if not after.is_rated():
+            raise Refused("range")
+        if not asleep:
+            self.account(reading)
+        most = (NANOS << old.shift) * (NOMINAL // 2)
+        self.lag = clamp(self.lag, -most, most) << counter.shift >> old.shift
+        self.clock, self.mark = after, first
+        self.front += 1
 
     def next_second(self):
         """The reading at which the next second of REALTIME begins, or None."""

@@ -24,3 +24,4 @@ pub mod Counting
 pub mod CountedNtp
 pub mod Cycles
 pub mod Ticks
+pub mod ChangeNtpCounter

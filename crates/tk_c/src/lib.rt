@@ -6,7 +6,7 @@
 //! | `tkc_counter_*` | make counters from numbers or from a rate, also with the finest mult; store a counter's numbers, compute with its cycles |
 //! | `tkc_clock_*` | open the running clocks, apply commands, change the counter, return the frequency and the tick, convert clocks to and from words, with their counter or without |
 //! | `tkc_snapshot_*` | read one time, at a reading or at the last command, or a list of times; test a step; find the reading of a time, return a clock's line and a snapshot's numbers, convert snapshots to and from words |
-//! | `tkc_ntp_*`, `tkc_adjtimex` | open steered clocks, advance them, apply commands, pass ticks, answer requests, return the coming leap and numbers of the discipline, convert them to and from words with their counter |
+//! | `tkc_ntp_*`, `tkc_adjtimex` | open steered clocks, advance them, apply commands, pass ticks, change the counter, answer requests, return the coming leap and numbers of the discipline, convert them to and from words with their counter |
 //! | `tkc_version` | returns the archive's version |
 //! | `CountedClock` | the clocks with their count of commands, `struct tkc_clock` in C |
 //! | `CountedNtp`, `SteeredCount`, `NtpStorage` | steered clocks with their count of commands, `struct tkc_ntp` in C |
@@ -19,6 +19,7 @@
 #![tactic(auto)]
 
 mod change_counter;
+mod change_ntp_counter;
 mod clocks;
 mod coarse;
 mod code;
@@ -47,6 +48,7 @@ mod version;
 mod words;
 
 pub use change_counter::tkc_clock_change_counter;
+pub use change_ntp_counter::tkc_ntp_change_counter;
 pub use clocks::{tkc_clock_apply, tkc_clock_open, tkc_clock_open_at, tkc_clock_snapshot};
 pub use coarse::tkc_snapshot_coarse;
 pub use code::Code;

@@ -18,16 +18,16 @@ use Rattle.tk_ntp.specs.Keeping.{HasArrivedOr, IsAdvancedTo, IsAnsweredTo, IsApp
 use Rattle.tk_ntp.specs.SteeredClock.{SteeredClock, reading_refusal}
 use Rattle.tk_ntp.proofs.SeenBy.{advanced, asked, commanded, same_seen}
 
-abbrev clocks_of : State → State
+abbrev pub clocks_of : State → State
 clocks_of clock = clock
 
-abbrev any_entries : State → List Entry → State → Type 0
+abbrev pub any_entries : State → List Entry → State → Type 0
 any_entries before entries after = Unit {0}
 
-abbrev any_room : ℕ → State → Type 0
+abbrev pub any_room : ℕ → State → Type 0
 any_room count clock = Unit {0}
 
-abbrev never_short : ℕ → State → Refusal → Type 0
+abbrev pub never_short : ℕ → State → Refusal → Type 0
 never_short count clock refusal = ⊥
 
 unmade : (count who reading : ℕ) (a : State) (before : Course) (refusal : Refusal) (b : State)
@@ -96,6 +96,29 @@ answered-by None who reading request a before result b after (inr h) = (
 )
 answered-by (Some refusal) who reading request a before result b after h =
     (h.0, same_seen clocks_of any_entries any_room never_short a b before after h.1 h.2)
+
+-- a call to clocks by themselves, after the seconds up to its reading
+pub followed_alone : {R : Type 0} (count who reading : ℕ) (Makes : State → Course → Type 0) (a : State)
+    (before : Course) (result : Result R Refusal) (b : State) (after : Course) →
+    IsFollowing clocks_of any_entries any_room never_short count who reading Makes a before result b
+    after →
+    (x ready : State) × (middle : Course) × IsAdvanced reading (seen a before) (seen x middle)
+    × (ready ≡ x) × Makes ready middle
+followed_alone count who reading Makes a before result b after (inl h) =
+    absurd (short count who reading a before result b after h)
+followed_alone count who reading Makes a before result b after (inr h) = (
+  h.0,
+  h.1,
+  h.2,
+  advanced clocks_of any_entries any_room never_short false who reading a before h.0 h.2 h.3,
+  h.4.same,
+  h.5,
+)
+
+pub same_alone : (a b : State) (before after : Course) → b ≡ a → after ≡ before →
+    seen b after ≡ seen a before
+same_alone a b before after h k =
+    same_seen clocks_of any_entries any_room never_short a b before after h k
 
 -- a request to clocks by themselves
 pub answered : (who reading : ℕ) (request : Timex) (a : State) (before : Course)

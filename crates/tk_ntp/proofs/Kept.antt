@@ -18,5 +18,5 @@ pub kept : (ntp : Ntp) (secs : List ℕ) → given secs ntp +ℤ (after secs ntp
 kept ntp [] = none ntp.offset
 kept ntp (sec ∷ secs) =
     let next = begun ntp sec in
-    one_more (part_of ntp.offset ntp.constant) (given secs next) (after secs next).offset ntp.offset
+    one_more (part_of ntp.offset ntp.constant ntp.status) (given secs next) (after secs next).offset ntp.offset
     (kept next secs)

@@ -25,6 +25,7 @@ pub mod Laws
 pub mod Kept
 pub mod Left
 pub mod Product
+pub mod Quotients
 pub mod Reading
 pub mod Real
 pub mod Restart
@@ -39,4 +40,7 @@ pub mod TaiKept
 pub mod Due
 pub mod Multipliers
 pub mod Unchanged
+pub mod Pulses
+pub mod Silent
 pub mod Worked
+mod Turning

@@ -20,6 +20,6 @@ IsAsLong-with_phase before next is ranges short =
     let whole = second_of before.tick before.frequency in
     let adjust = adjust_part before.adjust before.hz in
     rw is
-    (as_long (unsigned_abs whole) whole (part_of before.offset before.constant) adjust before.hz
+    (as_long (unsigned_abs whole) whole (part_of before.offset before.constant before.status) adjust before.hz
     max_frequency (is_whole before.tick before.frequency ranges.tick_low ranges.frequency_low)
     ranges.hz_low (short_shares (unsigned_abs adjust) before.hz short))

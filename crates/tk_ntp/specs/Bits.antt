@@ -14,6 +14,14 @@ without word mask = bit_and word (bit_not w32 mask)
 abbrev pub sta_pll : ℕ
 sta_pll = 0x1
 
+-- the pulses of a signal set the frequency
+abbrev pub sta_ppsfreq : ℕ
+sta_ppsfreq = 0x2
+
+-- the pulses of a signal set the offset
+abbrev pub sta_ppstime : ℕ
+sta_ppstime = 0x4
+
 -- late offsets steer by the FLL
 abbrev pub sta_fll : ℕ
 sta_fll = 0x8
@@ -33,6 +41,22 @@ sta_unsync = 0x40
 -- offsets leave the frequency as it is
 abbrev pub sta_freqhold : ℕ
 sta_freqhold = 0x80
+
+-- a pulse has come in the last seconds
+abbrev pub sta_ppssignal : ℕ
+sta_ppssignal = 0x100
+
+-- the last pulse came at a wrong time, or its offset was far from the one before
+abbrev pub sta_ppsjitter : ℕ
+sta_ppsjitter = 0x200
+
+-- the frequency changed too much at the last pulse
+abbrev pub sta_ppswander : ℕ
+sta_ppswander = 0x400
+
+-- the last pulse ended an interval that was too long
+abbrev pub sta_ppserror : ℕ
+sta_ppserror = 0x800
 
 -- the clock's hardware is at fault
 abbrev pub sta_clockerr : ℕ

@@ -12,7 +12,8 @@ after (sec ∷ secs) ntp = after secs (begun ntp sec)
 -- the sum of the parts that these seconds give of the offset
 abbrev pub given : List ℕ → Ntp → ℤ
 given [] ntp = pos 0
-given (sec ∷ secs) ntp = part_of ntp.offset ntp.constant +ℤ given secs (begun ntp sec)
+given (sec ∷ secs) ntp =
+    part_of ntp.offset ntp.constant ntp.status +ℤ given secs (begun ntp sec)
 
 -- no part of the offset is lost: what any seconds give of it, and what is left after them, make the
 -- offset

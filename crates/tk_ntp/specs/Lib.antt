@@ -33,3 +33,8 @@ pub mod Early
 pub mod Followed
 pub mod Numbers
 pub mod Restored
+pub mod ChangeCounter
+pub mod Pps
+pub mod Pulse
+pub mod PpsReply
+pub mod Pulsed

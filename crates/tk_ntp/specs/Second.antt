@@ -35,14 +35,14 @@ with_error ntp = record ntp {
 -- the second gets its phase: a part of the offset, and of what adjtime has still to give
 abbrev pub with_phase : Ntp → Ntp
 with_phase ntp = record ntp {
-  phase = part_of ntp.offset ntp.constant +ℤ adjust_part ntp.adjust ntp.hz;
-  offset = ntp.offset -ℤ part_of ntp.offset ntp.constant;
+  phase = part_of ntp.offset ntp.constant ntp.status +ℤ adjust_part ntp.adjust ntp.hz;
+  offset = ntp.offset -ℤ part_of ntp.offset ntp.constant ntp.status;
   adjust = adjust_rest ntp.adjust;
 }
 
 -- the state after a second has begun
 abbrev pub begun : Ntp → ℕ → Ntp
-begun ntp sec = with_phase (with_error (with_plan ntp sec))
+begun ntp sec = with_error (with_phase (with_plan ntp sec))
 
 -- the second that began is as long as the tick and the frequency make it, plus the part of the
 -- offset that it gives, up to 500 microseconds for adjtime and hz units of 2^-32 ns for rounding
@@ -50,5 +50,6 @@ abbrev pub IsAsLong : Ntp → Ntp → Type 0
 IsAsLong before after =
     unsigned_abs
     (second_length after
-    -ℤ (plain_length before +ℤ part_of before.offset before.constant *ℤ pos before.hz))
+    -ℤ (plain_length before
+    +ℤ part_of before.offset before.constant before.status *ℤ pos before.hz))
     ≤ max_frequency + before.hz

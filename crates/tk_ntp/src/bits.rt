@@ -31,6 +31,10 @@ pub const ADJ_READONLY: u32 = 0x2000;
 
 /// Offsets steer the clock.
 pub const STA_PLL: u32 = 0x1;
+/// The frequencies that the pulses of a signal show are taken.
+pub const STA_PPSFREQ: u32 = 0x2;
+/// The corrections that the pulses of a signal show are taken.
+pub const STA_PPSTIME: u32 = 0x4;
 /// Offsets that come at least 256 s after the last one steer by the FLL too.
 pub const STA_FLL: u32 = 0x8;
 /// A second is to be inserted at the end of the day.
@@ -41,6 +45,14 @@ pub const STA_DEL: u32 = 0x20;
 pub const STA_UNSYNC: u32 = 0x40;
 /// Offsets leave the frequency as it is.
 pub const STA_FREQHOLD: u32 = 0x80;
+/// A pulse has come in the last seconds (read only).
+pub const STA_PPSSIGNAL: u32 = 0x100;
+/// The last pulse came at a wrong time, or its correction was far from the one before (read only).
+pub const STA_PPSJITTER: u32 = 0x200;
+/// The last pulse showed a frequency far from the one before (read only).
+pub const STA_PPSWANDER: u32 = 0x400;
+/// The last pulse ended an interval that was too long (read only).
+pub const STA_PPSERROR: u32 = 0x800;
 /// The clock's hardware is at fault (read only).
 pub const STA_CLOCKERR: u32 = 0x1000;
 /// Offsets and times are in nanoseconds (read only).

@@ -8,7 +8,9 @@ mod commanding;
 mod due;
 mod following;
 mod giving;
+mod pulses;
 mod ticking;
+mod turning;
 
 use crate::change::Change;
 use crate::numbers::SteeredNumbers;

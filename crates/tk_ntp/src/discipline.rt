@@ -2,6 +2,7 @@ ghost use Rattle.std.specs.Prelude.{◌≡◌, ◌+◌, ◌<◌, ◌≤◌, Matc
 
 mod modes;
 mod numbers;
+mod pulses;
 mod replies;
 mod requests;
 mod seconds;
@@ -10,6 +11,7 @@ use crate::bits::STA_UNSYNC;
 use crate::leap_plan::LeapPlan;
 use crate::length::second_with_phase;
 use crate::request::ERROR_LIMIT;
+pub(crate) use replies::reply_freq;
 pub(crate) use requests::asked_tai;
 use std::marker::Model;
 

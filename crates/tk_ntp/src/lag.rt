@@ -3,7 +3,9 @@ ghost use Rattle.std.specs.Prelude.{◌≡◌, ◌+◌, ◌*◌, ◌/◌, ◌≤
 ghost use Rattle.std.specs.Int.{int_max};
 ghost use Rattle.tk_ntp.specs.Loops.{clamped_by};
 ghost use Rattle.tk_ntp.specs.Lag.{lag_in, short_of, greatest_lag, lag_after, most_made_up, made_up};
+ghost use Rattle.tk_ntp.specs.ChangeCounter.{lag_over, rescaled_lag};
 ghost use Rattle.tk_ntp.specs.Numbers.{lag_numbers};
+ghost use Rattle.tk_ntp.specs.Rate.{nominal};
 ghost use Rattle.tk_ntp.specs.Restored.{is_lag, lag_of};
 
 mod soon;
@@ -147,6 +149,25 @@ impl Lag {
         ))
     }
 
+    /// Carries the lag over from the counter `from` to the units of the counter `desc`, rounded down
+    /// if its shift is smaller.
+    pub(crate) fn carry_over(&mut self, from: CounterDesc, desc: CounterDesc)
+        ensures { self.new ≡ lag_over from desc self.old }
+    {
+        let lag = self.within(from);
+        *self = Lag::of_amount(rescaled_lag(from.shift(), desc.shift(), lag));
+    }
+
+    /// Returns the lag, at most the greatest one of the counter `desc` in either direction.
+    fn within(&self, desc: CounterDesc) -> i128
+        ensures value { result ≡ clamped_by (greatest_lag desc) self.now }
+        ensures most { unsigned_abs result ≤ greatest_lag desc }
+        ensures low { unsigned_abs result ≤ 2 ^ 123 }
+    {
+        let most = greatest_lag(desc);
+        self.amount().clamp(-most, most)
+    }
+
     /// Returns what the next second makes up for, in `2^-32` ns: the lag, at most 500 us and two
     /// units of the multiplier for a second in either direction.
     pub fn made_up(&self, desc: CounterDesc) -> i64
@@ -270,6 +291,22 @@ fn limited_product(cycles: u64, short: u128) -> u128
     }
     let lower = u128::from(cycles) * (short % HALF_WORD);
     (upper * HALF_WORD + lower).min(PRODUCT_LIMIT)
+}
+
+/// Returns a lag of units of `2^-from` ns in units of `2^-to` ns, rounded down. It is at most half
+/// a second.
+fn rescaled_lag(from: u32, to: u32, lag: i128) -> i128
+    requires from { from ≤ 32 }
+    requires to { to ≤ 32 }
+    requires lag { unsigned_abs lag ≤ 10 ^ 9 * 2 ^ from * (nominal / 2) }
+    ensures value { result ≡ rescaled_lag from to lag }
+    ensures most { unsigned_abs result ≤ 2 ^ 123 }
+{
+    if from <= to {
+        lag * (1 << (to - from))
+    } else {
+        lag.div_euclid(1 << (from - to))
+    }
 }
 
 /// Returns the most of the lag that a second makes up for, in `2^-32` ns.

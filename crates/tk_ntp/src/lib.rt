@@ -10,6 +10,7 @@
 //! | `Course` | such a discipline apart from its clocks, for whoever keeps these (`Clocks`) |
 //! | `request_of` | the request that a command acts as |
 //! | `SECOND_ENTRIES_LIMIT`, `REQUEST_ENTRIES_LIMIT` | the most entries of a second or a command; of a request |
+//! | `Pps`, `Pulse`, `PpsReply` | a signal of a pulse per second, what a discipline takes from a pulse, and the signal's part of a reply |
 //! | `Steering`, `Lag` | a discipline with what its clock lags behind; the commands of a second |
 //! | `Rate`, `Change` | the frequency and the tick for a length, and the commands that set them |
 //! | `SteeredNumbers` .. | a discipline in plain numbers, as C code holds it |
@@ -29,6 +30,9 @@ mod loops;
 mod numbers;
 mod numbers_error;
 mod phase;
+mod pps;
+mod pps_reply;
+mod pulse;
 mod rate;
 mod reply;
 mod request;
@@ -39,7 +43,8 @@ mod timex;
 pub use bits::{
     ADJ_ADJTIME, ADJ_ESTERROR, ADJ_FREQUENCY, ADJ_MAXERROR, ADJ_MICRO, ADJ_NANO, ADJ_OFFSET,
     ADJ_READONLY, ADJ_SETOFFSET, ADJ_STATUS, ADJ_TAI, ADJ_TICK, ADJ_TIMECONST, STA_CLOCKERR,
-    STA_DEL, STA_FLL, STA_FREQHOLD, STA_INS, STA_MODE, STA_NANO, STA_PLL, STA_UNSYNC,
+    STA_DEL, STA_FLL, STA_FREQHOLD, STA_INS, STA_MODE, STA_NANO, STA_PLL, STA_PPSERROR,
+    STA_PPSFREQ, STA_PPSJITTER, STA_PPSSIGNAL, STA_PPSTIME, STA_PPSWANDER, STA_UNSYNC,
 };
 pub use change::Change;
 pub use course::{Course, REQUEST_ENTRIES_LIMIT, SECOND_ENTRIES_LIMIT, request_of};
@@ -48,6 +53,9 @@ pub use lag::Lag;
 pub use leap::Leap;
 pub use numbers::{DisciplineNumbers, LagNumbers, LeapNumbers, SteeredNumbers, SteeringNumbers};
 pub use numbers_error::NumbersError;
+pub use pps::Pps;
+pub use pps_reply::PpsReply;
+pub use pulse::Pulse;
 pub use rate::Rate;
 pub use reply::{Reply, TimeState};
 pub use steered_clock::SteeredClock;

@@ -1,29 +1,51 @@
 //! Divides the phase of an offset among the seconds.
 ghost use Rattle.std.specs.Prelude.{◌≡◌, ℕ, ◌+◌, ◌*◌, ◌/◌, ◌^◌, ◌<◌, ◌≤◌, pos, ◌+ℤ◌, ◌-ℤ◌, ◌*ℤ◌, unsigned_abs};
 ghost use Rattle.tk_ntp.specs.Length.{one, toward_zero, max_frequency, max_phase};
-ghost use Rattle.tk_ntp.specs.Phase.{part_of, adjust_part, adjust_rest};
+ghost use Rattle.tk_ntp.specs.Phase.{gives_whole, usual_part, part_of, adjust_part, adjust_rest};
 
+use crate::bits::{STA_PPSSIGNAL, STA_PPSTIME, has};
 use crate::length::{MAX_FREQUENCY, ONE, share, toward_zero};
 
 /// The most that `adjtime` gives in a second, in microseconds (`MAX_TICKADJ`).
 const ADJUST_STEP: i64 = 500;
 
+/// Returns whether the next second gives a whole offset: the corrections of a signal are taken, and
+/// it is present.
+fn gives_whole(status: u32) -> bool
+    ensures { result ≡ gives_whole status }
+{
+    has(status, STA_PPSTIME) && has(status, STA_PPSSIGNAL)
+}
+
 /// Returns the part of an offset that the next second gives (`ntp_offset_chunk`).
-pub(crate) fn part_of(offset: i64, constant: u32) -> i64
+fn part_of(offset: i64, constant: u32, status: u32) -> i64
     requires { constant ≤ 10 }
-    ensures value { result ≡ part_of offset constant }
+    ensures value { result ≡ part_of offset constant status }
+    ensures parts { unsigned_abs (offset -ℤ result) + unsigned_abs result ≡ unsigned_abs offset }
+{
+    if gives_whole(status) {
+        offset
+    } else {
+        usual_part(offset, constant)
+    }
+}
+
+/// Returns the part of an offset that the next second gives, if that isn't the whole one.
+fn usual_part(offset: i64, constant: u32) -> i64
+    requires { constant ≤ 10 }
+    ensures value { result ≡ usual_part offset constant }
     ensures parts { unsigned_abs (offset -ℤ result) + unsigned_abs result ≡ unsigned_abs offset }
 {
     toward_zero(offset, 4 << constant)
 }
 
 /// Returns what is left of an offset after the next second.
-pub(crate) fn rest_of(offset: i64, constant: u32) -> i64
+pub(crate) fn rest_of(offset: i64, constant: u32, status: u32) -> i64
     requires { constant ≤ 10 }
-    ensures value { result ≡ offset -ℤ part_of offset constant }
+    ensures value { result ≡ offset -ℤ part_of offset constant status }
     ensures less { unsigned_abs result ≤ unsigned_abs offset }
 {
-    offset - part_of(offset, constant)
+    offset - part_of(offset, constant, status)
 }
 
 /// Returns what the next second gives of `adjust`, in each of its `hz` parts.
@@ -55,15 +77,15 @@ pub(crate) fn adjust_rest(adjust: i64) -> i64
 }
 
 /// Returns the phase of the next second, in each of its `hz` parts.
-pub(crate) fn phase_of(offset: i64, constant: u32, adjust: i64, hz: u32) -> i64
+pub(crate) fn phase_of(offset: i64, constant: u32, status: u32, adjust: i64, hz: u32) -> i64
     requires some { 0 < hz }
     requires constant { constant ≤ 10 }
     requires held { unsigned_abs offset ≤ max_phase / hz }
-    ensures value { result ≡ part_of offset constant +ℤ adjust_part adjust hz }
+    ensures value { result ≡ part_of offset constant status +ℤ adjust_part adjust hz }
     ensures most { unsigned_abs result ≤ max_phase / hz + max_frequency / hz }
     ensures adjust { unsigned_abs (adjust_part adjust hz) ≤ max_frequency / hz }
 {
-    part_of(offset, constant) + adjust_part(adjust, hz)
+    part_of(offset, constant, status) + adjust_part(adjust, hz)
 }
 
 /// Returns a phase of `hz` equal parts in whole nanoseconds, rounded toward zero.

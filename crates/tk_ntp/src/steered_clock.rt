@@ -2,7 +2,9 @@ ghost use Rattle.std.specs.Prelude.{◌≡◌, ◌≤◌, ◌*ℤ◌, ◌≤ℤ�
 
 mod advancing;
 mod asking;
+mod change_counter;
 mod numbers;
+mod pulses;
 mod uptime;
 
 use crate::course::Course;

@@ -6,6 +6,7 @@ use crate::discipline::Discipline;
 use crate::lag::Lag;
 use crate::leap::Leap;
 use crate::numbers::SteeringNumbers;
+use crate::pulse::Pulse;
 use crate::rate::Rate;
 use crate::reply::Reply;
 use crate::timex::Timex;
@@ -45,9 +46,12 @@ impl Steering {
     ghost use Rattle.tk_ntp.specs.Ntp.{cleared, second_length};
     ghost use Rattle.tk_ntp.specs.Numbers.{discipline_numbers, lag_numbers, steering_numbers};
     ghost use Rattle.tk_ntp.specs.Restored.{are_in_range, is_plan, is_lag, lag_of, steering_of};
+    ghost use Rattle.tk_ntp.specs.Pps.{without_signal};
+    ghost use Rattle.tk_ntp.specs.Pulse.{IsPulse, with_pulse};
     ghost use Rattle.tk_ntp.specs.Reply.{reply_to};
     ghost use Rattle.tk_ntp.specs.Second.{leap_at};
     ghost use Rattle.tk_ntp.specs.Change.{multiplier_at, changed};
+    ghost use Rattle.tk_ntp.specs.ChangeCounter.{lag_over};
     ghost use Rattle.tk_ntp.specs.Rate.{IsInRange, IsGiven, IsNearUsual};
 
     /// Steers by a discipline, without a lag.
@@ -78,6 +82,22 @@ impl Steering {
         reply
     }
 
+    /// Takes a pulse of a signal, as `Discipline::pulse`. The lag stays: call `account` first.
+    pub fn pulse(&mut self, pulse: Pulse)
+        requires { IsPulse pulse }
+        ensures { self.new ≡ record self.old { ntp = with_pulse pulse self.old.ntp } }
+    {
+        self.ntp.pulse(pulse);
+        self.length = self.ntp.second_length();
+    }
+
+    /// Turns the bits of a signal off, as `Discipline::lose_signal`.
+    pub fn lose_signal(&mut self)
+        ensures { self.new ≡ record self.old { ntp = without_signal self.old.ntp } }
+    {
+        self.ntp.lose_signal();
+    }
+
     /// Clears the discipline, as `Discipline::clear`, and sets the lag to 0, after REALTIME was set
     /// or stepped.
     pub fn clear(&mut self)
@@ -95,6 +115,13 @@ impl Steering {
         ensures { self.new ≡ accounted desc mult cycles self.old }
     {
         self.lag.account(desc, self.length, mult, cycles);
+    }
+
+    /// Carries the lag over from the counter `from` to the counter `desc`.
+    pub(crate) fn carry_over(&mut self, from: CounterDesc, desc: CounterDesc)
+        ensures { self.new ≡ record self.old { lag = lag_over from desc self.old.lag } }
+    {
+        self.lag.carry_over(from, desc);
     }
 
     /// Lets the second `sec` of REALTIME begin, `cycles` after the last account, and returns what

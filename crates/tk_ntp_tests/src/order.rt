@@ -11,6 +11,10 @@ pub enum Order {
     Second(u64),
     /// Says that REALTIME was set.
     Clear,
+    /// Gives the discipline a signal of a pulse per second.
+    Signal,
+    /// Gives a pulse, at nanoseconds of REALTIME's second and of MONOTONIC_RAW.
+    Pulse(u32, u64),
     /// Asks the discipline at a time of REALTIME.
     Adjtimex(Timespec, Timex),
 }
@@ -19,10 +23,10 @@ impl Order {
     /// Reads an order from a line. `None` means that the line is no order.
     pub fn read(alloc: Global, line: &str) -> Result<Option<Order>, AllocError> {
         let Some((word, rest)) = line.split_once(',') else {
-            return Ok(if line == "clear" {
-                Some(Order::Clear)
-            } else {
-                None
+            return Ok(match line {
+                "clear" => Some(Order::Clear),
+                "signal" => Some(Order::Signal),
+                _ => None,
             });
         };
         let numbers = numbers_of(alloc, rest)?;
@@ -35,6 +39,9 @@ fn order_of(word: &str, numbers: &[i64]) -> Option<Order> {
     Some(match (word, numbers) {
         ("new", [hz]) => Order::New(u32::try_from(*hz).ok()?),
         ("second", [sec]) => Order::Second(u64::try_from(*sec).ok()?),
+        ("pps", [nsec, raw]) => {
+            Order::Pulse(u32::try_from(*nsec).ok()?, u64::try_from(*raw).ok()?)
+        }
         ("adjtimex", [sec, nsec, request @ ..]) => {
             let nsec = u32::try_from(*nsec).ok()?;
             Order::Adjtimex(Timespec { sec: *sec, nsec }, timex_of(request)?)

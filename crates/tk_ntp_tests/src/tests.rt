@@ -5,6 +5,7 @@ use tk_clock::Timespec;
 use tk_counter::CounterDesc;
 use tk_ntp::{Discipline, Leap, Reply, SteeredClock, TimeState, Timex};
 
+mod changing;
 mod following;
 mod lags;
 mod leaps;

@@ -62,7 +62,8 @@ impl<L: Named, C: Counter> Locked<L, C> {
     /// publications, as `accept` requires.
     ///
     /// It reads the counter once, and waits for readers of the page. A refused command publishes
-    /// nothing.
+    /// nothing. It informs the caller of the number of folded entries too, so `Full` is never
+    /// returned for entries that another caller has folded.
     pub(crate) fn command<R: Wait>(
         &mut self,
         rt: &R,
@@ -78,6 +79,7 @@ impl<L: Named, C: Counter> Locked<L, C> {
             (λ _. EndsAtReading C.answers_after caller.new.seen caller.new.noticed.commands)
             (λ refusal. IsRefusedAtReading C.answers_after caller.old caller.new cmd refusal) }
         ensures seen { caller.new.seen ≡ self.new.history }
+        ensures folds { caller.new.folded ≡ self.old.journal.opening.count }
         ensures folded { self.new.journal.opening ≡ self.old.journal.opening }
         ensures same { IsSameCaller caller.old caller.new }
     {

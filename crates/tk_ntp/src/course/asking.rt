@@ -118,7 +118,7 @@ impl Course {
     }
 
     /// Accounts for the cycles up to a reading, if a test holds.
-    fn account_if(&mut self, test: bool, clock: &Clock, reading: u64)
+    pub(super) fn account_if(&mut self, test: bool, clock: &Clock, reading: u64)
         ensures { seen clock.now self.new ≡ accounted_if test reading (seen clock.now self.old) }
     {
         if test {
@@ -127,7 +127,7 @@ impl Course {
     }
 
     /// Gives the clocks the rate that the present second needs, if a test holds.
-    fn steer_if<C: Clocks>(&self, test: bool, clocks: &mut C, who: u32, reading: u64)
+    pub(super) fn steer_if<C: Clocks>(&self, test: bool, clocks: &mut C, who: u32, reading: u64)
         requires room { C.has_room 2 clocks.old }
         ensures seen { seen (C.state clocks.new) self.now
             ≡ steered_if test reading (seen (C.state clocks.old) self.now) }

@@ -85,7 +85,7 @@ fn named(state: LeapState) -> TimeState
 }
 
 /// Returns a frequency in `2^-16` ppm, as the kernel computes it (`PPM_SCALE_INV`).
-fn reply_freq(frequency: i64) -> i64
+pub(crate) fn reply_freq(frequency: i64) -> i64
     requires { unsigned_abs frequency ≤ max_frequency }
     ensures { result ≡ reply_freq frequency }
 {

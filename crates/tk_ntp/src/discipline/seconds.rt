@@ -23,8 +23,9 @@ impl Discipline {
     /// REALTIME leaps by then (`second_overflow`).
     ///
     /// The leap second moves on, the greatest error grows by 500 us, and the second gets its phase:
-    /// a part of the offset, and up to 500 us of what `adjtime` has still to give. If the greatest
-    /// error would be above 16 s, the clock counts as not synchronized.
+    /// a part of the offset, and up to 500 us of what `adjtime` has still to give. With
+    /// `STA_PPSTIME` and `STA_PPSSIGNAL` on, the part is the whole offset. If the greatest error
+    /// would be above 16 s, the clock counts as not synchronized.
     #[tactic(auto, using(crate::proofs::Kept::kept))]
     pub fn overflow(&mut self, sec: u64) -> Leap
         requires { sec < 2 ^ 63 }
@@ -34,8 +35,8 @@ impl Discipline {
         ensures length { IsAsLong self.old self.new }
     {
         let leap = self.begin_leap(sec);
-        self.grow_error();
         self.take_phase();
+        self.grow_error();
         leap
     }
 
@@ -68,8 +69,14 @@ impl Discipline {
             ≤ max_frequency / self.old.hz }
         ensures ranges { IsNtp self.old }
     {
-        self.phase = phase_of(self.offset, self.constant, self.adjust, self.hz);
-        self.offset = rest_of(self.offset, self.constant);
+        self.phase = phase_of(
+            self.offset,
+            self.constant,
+            self.status,
+            self.adjust,
+            self.hz,
+        );
+        self.offset = rest_of(self.offset, self.constant, self.status);
         self.adjust = adjust_rest(self.adjust);
     }
 }

@@ -16,7 +16,7 @@ returns-clause-value c =
     let adjust = to_z-of_z w64 c.args.adjust c.ranges.adjust in
     let p = c.part_of.result in
     let a = c.adjust_part.result in
-    let part : p ≡ part_of c.args.offset c.args.constant = rw offset at c.part_of.ensures.value in
+    let part : p ≡ part_of c.args.offset c.args.constant c.args.status = rw offset at c.part_of.ensures.value in
     let more : a ≡ adjust_part c.args.adjust c.args.hz = rw adjust at c.adjust_part.ensures.value in
     let parts = rw offset at c.part_of.ensures.parts in
     let held = c.requires.held in
@@ -25,7 +25,7 @@ returns-clause-value c =
     let second : unsigned_abs a ≤ max_frequency =
     omega (arith, share_less max_frequency c.args.hz) in
     sum_is p a first second ∙ ap (λ z. z +ℤ a) part
-    ∙ ap (λ z. part_of c.args.offset c.args.constant +ℤ z) more
+    ∙ ap (λ z. part_of c.args.offset c.args.constant c.args.status +ℤ z) more
 
 pub returns-clause-adjust : goal.returns-clause-adjust
 returns-clause-adjust c =

@@ -290,3 +290,13 @@ returns-clause-reading g c =
     } in
     subst (λ (j : Journal).
     EndsAtReading g.C.Counter.answers_after j c.tell-4.new.reader.commands) (sym seen) found
+
+pub returns-in-Err-clause-folds : goal.returns-in-Err-clause-folds
+returns-in-Err-clause-folds g c =
+    c.show.ensures.reader.1 ∙ c.folded-folded.ensures
+    ∙ ap (λ (v : Guarded). v.journal.opening.count) c.self.view_is
+
+pub returns-clause-folds : goal.returns-clause-folds
+returns-clause-folds g c =
+    c.show.ensures.reader.1 ∙ c.folded-folded.ensures
+    ∙ ap (λ (v : Guarded). v.journal.opening.count) c.self.view_is
