@@ -14,7 +14,7 @@ use Rattle.tk_c.specs.CountedNtp.{counted_clock}
 use Rattle.tk_c.specs.Room.{HasCounted, HasRoom, IsShort, clocks_of}
 use Rattle.tk_c.specs.Storage.{snapshot_storage}
 
--- what tells that a tick changed clocks
+-- the numbers of clocks that differ after a tick that changed them
 abbrev pub marks_of : SteeredClock → TickMarks
 marks_of steered = record {
   next = steered.next;

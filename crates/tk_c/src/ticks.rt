@@ -17,7 +17,7 @@ pub const TICK_LEAP: u32 = 2;
 /// The bit of a tick after which the clocks have another rate.
 pub const TICK_RATE: u32 = 4;
 
-/// Holds what tells whether a tick changed clocks.
+/// Contains the numbers of clocks that differ after a tick that changed them.
 #[derive(Clone, Copy)]
 pub struct TickMarks {
     /// The second of REALTIME that begins next.
@@ -59,7 +59,7 @@ pub extern "C" fn tkc_ntp_tick(
     }
 }
 
-/// Returns what tells whether a tick changed these clocks.
+/// Returns the numbers of these clocks that differ after a tick that changed them.
 #[inline(always)]
 fn marks(ntp: &CountedNtp) -> TickMarks
     ensures { result ≡ marks_of (whole ntp.now).steered }
