@@ -42,7 +42,7 @@ fn acts<L: Named + Send + Sync, R: Threads + Wait + Abort + Sync>(
     deed: Deed,
 ) {
     match deed {
-        Deed::Fills => folding::fills(rt, keeper, one),
+        Deed::Fills => folding::fills(rt, keeper, one, other),
         Deed::Fold => folding::folds(rt, keeper, one, other),
         Deed::Follow => turns::follows(rt, keeper, one, other),
         Deed::Glance => readers::glances_beside(rt, keeper, one, other),

@@ -16,6 +16,7 @@ pub(super) fn fills<L: Named>(
     rt: &(impl Wait + Abort),
     keeper: &SharedKeeper<L, Ticker>,
     caller: &mut Caller<L>,
+    other: &mut Caller<L>,
 ) {
     let mut is_good = true;
     for number in 1..=1_048_576 {
@@ -34,6 +35,14 @@ pub(super) fn fills<L: Named>(
     assert_same(rt, &behind, &Err(Refusal::Behind));
     let accepted = commanded(rt, keeper, caller, Command::Update);
     assert_same(rt, &accepted, &Ok(1_048_577));
+    // the other caller knows of no fold before its command
+    let others = commanded(rt, keeper, other, Command::Update);
+    assert_same(rt, &(others, other.folded()), &(Ok(1_048_578), 1_048_575));
+    // a refused command informs it too
+    assert_same(rt, &fold_by(rt, keeper, caller, 0), &1_048_578);
+    let refused = commanded(rt, keeper, other, Command::Tick(5));
+    let seen = (refused, other.folded());
+    assert_same(rt, &seen, &(Err(Refusal::Invalid), 1_048_578));
 }
 
 #[test]

@@ -1,4 +1,4 @@
-//! Tests one thread that gives commands while another reads the latch.
+//! Tests one thread that gives commands while another reads the latch, and then the page.
 use super::deeds::{Deed, does};
 use super::{assert_same, commanded, glanced, read_by};
 use std::process::Abort;
@@ -32,7 +32,7 @@ fn commands<L: Named, R: Wait>(
 }
 
 /// Reads until all commands are given. Returns whether all snapshots were whole, and none was older
-/// than one before it.
+/// than one before it, or later than the snapshot that the page showed after it.
 fn glances<L: Named, R: Wait>(
     rt: &R,
     keeper: &SharedKeeper<L, Ticker>,
@@ -48,6 +48,7 @@ fn glances<L: Named, R: Wait>(
             Ok(seen) => {
                 is_good = is_good && is_whole(&seen) && front <= seen.front();
                 front = seen.front();
+                is_good = is_good && front <= read_by(rt, keeper, caller).front();
             }
             Err(moved) => is_good = is_good && moved.first < moved.last,
         }
