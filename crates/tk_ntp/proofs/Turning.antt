@@ -48,8 +48,12 @@ fits from to lag less low most =
     let fit = held from to lag less low most in
     let small = unit_low from to low in
     let bound = wide from to lag less low most in
-    rw (to_z-of_z w128 lag fit, unit from to low, to_z_pos w128 (2 ^ (to - from))
-    (omega (arith, small)))
+    rw (
+      to_z-of_z w128 lag fit,
+      unit from to low,
+      to_z_pos w128 (2 ^ (to - from))
+          (omega (arith, small)),
+    )
     (fits_signed_from_abs w128 (lag *ℤ pos (2 ^ (to - from))) (omega (arith, bound)))
 
 pub is : (from to : ℕ) (lag : ℤ) → from ≤ to → to ≤ 32 →
@@ -61,7 +65,11 @@ is from to lag less low most =
     let fit = held from to lag less low most in
     let small = unit_low from to low in
     let bound = wide from to lag less low most in
-    rw (to_z-of_z w128 lag fit, unit from to low, to_z_pos w128 (2 ^ (to - from))
-    (omega (arith, small)))
+    rw (
+      to_z-of_z w128 lag fit,
+      unit from to low,
+      to_z_pos w128 (2 ^ (to - from))
+          (omega (arith, small)),
+    )
     (to_z-of_z w128 (lag *ℤ pos (2 ^ (to - from)))
     (fits_signed_from_abs w128 (lag *ℤ pos (2 ^ (to - from))) (omega (arith, bound))))

@@ -14,12 +14,11 @@ returns-clause-answer c =
     let base : inside.clock.base ≡ c.snapshot-former.result.base =
     sym (ap (λ (s : Snapshot). s.base) c.snapshot-former.ensures) in
     let answer = c.in_ok-change_counter.ensures.answer in
-    rw (← c.self.view_is)
-    (
+    rw (← c.self.view_is) (
       answer.0,
       c.turn_over.ensures inside.clock c.change_counter.new.self base
-      ∙ ap (λ (k : State). turned_over c.args.reading c.args.desc c.args.first k
-      (seen inside.clock inside.course)) answer.1,
+          ∙ ap (λ (k : State). turned_over c.args.reading c.args.desc c.args.first k
+          (seen inside.clock inside.course)) answer.1,
     )
 
 pub returns-clause-marked : goal.returns-clause-marked
