@@ -64,6 +64,16 @@ static void ntp_leapt(void *out)
 	ask(out, 10 * (uint64_t)SECOND, TKC_ADJ_TAI);
 }
 
+/* Another counter, after the seconds of `ntp_leapt`. */
+static void ntp_changed(void *out)
+{
+	struct tkc_counter counter;
+
+	ntp_steered(out);
+	made(tkc_counter_new(&counter, 56, 1 << 20, 10));
+	made(tkc_ntp_change_counter(out, 4 * (uint64_t)SECOND, &counter, 11));
+}
+
 /* The leap second of `ntp_leapt`, late and with the two seconds after it. */
 static void ntp_late(void *out)
 {
@@ -146,6 +156,7 @@ const struct filled filled_ntp[] = {
 	{ "ntp_open_at", ntp_open_at, sizeof(struct tkc_ntp) },
 	{ "ntp_steered", ntp_steered, sizeof(struct tkc_ntp) },
 	{ "ntp_leapt", ntp_leapt, sizeof(struct tkc_ntp) },
+	{ "ntp_changed", ntp_changed, sizeof(struct tkc_ntp) },
 	{ "ntp_late", ntp_late, sizeof(struct tkc_ntp) },
 	{ "ntp_commanded", ntp_commanded, sizeof(struct tkc_ntp) },
 	{ "ntp_load", ntp_load, sizeof(struct tkc_ntp) },

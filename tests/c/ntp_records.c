@@ -134,17 +134,24 @@ static void apply_command(struct session *session, const struct record *record, 
 				 (uint32_t)n[3]));
 }
 
-/* The session keeps the counter that the clocks run over. */
+/* The session keeps the counter that the clocks run over. A refused change leaves clocks that have
+ * only advanced, and not even that for a reading or `first` above its mask. */
 static void change_counter(struct session *session, const struct record *record, char *line)
 {
 	const uint64_t *n = record->numbers;
-	struct tkc_counter counter;
+	struct tkc_ntp before = session->ntp;
+	struct tkc_counter counter, given;
 	uint32_t code;
 
 	check(!tkc_counter_new(&counter, (uint32_t)n[1], (uint32_t)n[2], (uint32_t)n[3]));
+	given = counter;
 	code = tkc_ntp_change_counter(&session->ntp, n[0], &counter, n[4]);
+	check(!memcmp(&counter, &given, sizeof(given)));
 	if (!code)
 		session->counter = counter;
+	else if (code != TKC_INVALID)
+		check(tkc_ntp_advance(&before, n[0]) != TKC_INVALID);
+	check(!code || !memcmp(&session->ntp, &before, sizeof(before)));
 	print_code(line, "ok", code);
 }
 

@@ -9,7 +9,9 @@
  *		UPTIME_SEC,UPTIME_NSEC			open
  *	advance,READING					ok
  *	late,READING					ok
+ *	tick,READING					tick,CHANGED
  *	apply,READING,COMMAND,NUMBER,NSEC		ok
+ *	counter,READING,BITS,MULT,SHIFT,FIRST		ok
  *	adjtimex,READING,MODES,OFFSET,FREQ,MAXERROR,ESTERROR,STATUS,CONSTANT,
  *		TICK,SEC,SUB				adj,STATE,SEC.SUB,OFFSET,FREQ,
  *							MAXERROR,ESTERROR,STATUS,
@@ -21,8 +23,9 @@
  *
  * PARTS is the discipline's hz. `late` advances with tkc_ntp_advance_late, and
  * `get` advances first with tkc_ntp_advance. BY and SECOND are those of
- * tkc_ntp_leap, and SECOND is 0 if no leap is coming. A call that fails is
- * answered `no,CODE`.
+ * tkc_ntp_leap, and SECOND is 0 if no leap is coming. CHANGED is that of
+ * tkc_ntp_tick. `counter` changes the counter, to the reading FIRST. A call
+ * that fails is answered `no,CODE`.
  */
 #ifndef NTP_RECORDS_H
 #define NTP_RECORDS_H

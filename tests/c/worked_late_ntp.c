@@ -171,6 +171,52 @@ static const struct ntp_row counters[] = {
 	{ "next", "next,1899868186" },
 };
 
+/* Refusals of a change, in their order: of `first`, of the reading, and of the rate. The clocks are
+ * as slow as they can be: 230 of 256 units of the multiplier, which is less than 8388608 units allow.
+ * A change that is refused for this lets the second at 1,113,043,484 begin, and none while asleep.
+ * Each accepted change is to a counter whose slowest rate is as low. */
+static const struct ntp_row refused_counters[] = {
+	{ "open,32,256,8,5,1700000000,0,250", "open" },
+	{ "counter,4294967296,32,256,8,4294967296", "no,TKC_INVALID" },
+	{ "counter,4294967296,32,256,8,0", "no,TKC_INVALID" },
+	{ "counter,4,32,256,8,4294967296", "no,TKC_INVALID" },
+	{ "counter,4,32,256,8,0", "no,TKC_BEHIND" },
+	{ "counter,2147483653,32,256,8,0", "no,TKC_BEHIND" },
+	{ "counter,4,8,256,0,256", "no,TKC_INVALID" },
+	{ "adjtimex,5,0x4002,0,-32768000,0,0,0,0,9000,0,0",
+	  "adj,error,1700000000.000000,0,-32768000,16000000,16000000,64,2,9000,0" },
+	{ "front", "front,2" },
+	{ "next", "next,1113043484" },
+	{ "counter,600000000,64,8388608,23,0", "no,TKC_RANGE" },
+	{ "front", "front,2" },
+	{ "get,1,600000000", "at,0.539062495" },
+	{ "next", "next,1113043484" },
+	{ "counter,1113043488,64,8388608,23,0", "no,TKC_RANGE" },
+	{ "front", "front,2" },
+	{ "next", "no,TKC_FURTHER" },
+	{ "asked", "asked,0,0,64,-32768000,9000" },
+	{ "adjtimex,1200000000,0x4,0,0,5,0,0,0,0,0,0",
+	  "adj,error,1700000001.078124,0,-32768000,5,16000000,64,2,9000,0" },
+	{ "counter,1199999999,32,512,9,7", "no,TKC_BEHIND" },
+	{ "counter,1200000000,64,8388608,23,0", "no,TKC_RANGE" },
+	{ "counter,1200000000,32,512,9,4294967296", "no,TKC_INVALID" },
+	{ "counter,1200000000,32,512,9,4294967295", "ok" },
+	{ "front", "front,3" },
+	{ "get,1,4294967295", "at,1.078124995" },
+	{ "next", "next,1026086961" },
+	{ "apply,9,6,0,0", "ok" },
+	{ "counter,4294967296,64,8388608,23,0", "no,TKC_INVALID" },
+	{ "counter,0,32,256,8,4294967296", "no,TKC_INVALID" },
+	{ "counter,0,64,8388608,23,0", "no,TKC_RANGE" },
+	{ "front", "front,4" },
+	{ "counter,10,16,256,8,65535", "ok" },
+	{ "front", "front,5" },
+	{ "next", "no,TKC_NEVER" },
+	{ "apply,65534,7,2,0", "ok" },
+	{ "next", "no,TKC_FURTHER" },
+	{ "get,11,9", "at,1700000003.078125014" },
+};
+
 /* A leap second is one command, and so is each step that leaves the rate. */
 static const struct ntp_row leap_fronts[] = {
 	{ "openhz,64,1000000000,600,0,1483228797,499000000,250", "open" },
@@ -200,5 +246,6 @@ void try_late_ntp(void)
 	try_each(fronts, try_ntp_row);
 	try_each(kernel_ticks, try_ntp_row);
 	try_each(counters, try_ntp_row);
+	try_each(refused_counters, try_ntp_row);
 	try_each(leap_fronts, try_ntp_row);
 }

@@ -190,6 +190,7 @@ static void try_late_reading(const struct late_reading *row)
 {
 	struct tkc_timex timex = { .modes = 0 };
 	struct tkc_ntp ntp = late(), before = ntp;
+	struct tkc_counter counter = nanosecond_counter();
 	struct tkc_snapshot snapshot;
 	uint32_t state, changed = 77;
 
@@ -199,6 +200,8 @@ static void try_late_reading(const struct late_reading *row)
 	check(tkc_ntp_tick(&snapshot, &changed, &ntp, row->reading) == row->code);
 	check(changed == 77);
 	check(tkc_adjtimex(&timex, &state, &ntp, row->reading) == row->code);
+	check(tkc_ntp_change_counter(&ntp, row->reading, &counter, 0) == row->code);
+	check(tkc_ntp_change_counter(&ntp, row->reading, &counter, 4294967296) == TKC_INVALID);
 	check(!memcmp(&ntp, &before, sizeof(ntp)));
 }
 
@@ -282,18 +285,115 @@ static void try_full_front(const struct full_front *row)
 	check(!memcmp(&ntp, &before, sizeof(ntp)));
 }
 
+/* The words of the clocks of `steered` with other numbers, by which the next second needs 3
+ * commands: for its leap, for a tick and for a frequency. The front is 0 here and below. */
+static const uint64_t due_words[] = {
+	0, 7, 16777216, 0, 0, 1700000000000000005, 0, 0, 0, 0, 32, 16777216, 24, 0,
+	10000, 250, 16, 1, 1, 1700000001, 0, 2, 16000000, 16000000, 10100,
+	4294967296000, 0, 0, 0, 1152921504606846976, 0, 1700000001, 7,
+};
+
+/* Those words after a change of counter before that second; after the second; and after the second
+ * and a change. */
+static const uint64_t early_words[] = {
+	0, 11, 8388608, 8388607949668352, 0, 1700000000000000005, 0, 0,
+	8388607949668352, 0, 64, 8388608, 23, 0, 10000, 250, 16, 1, 1, 1700000001, 0,
+	2, 16000000, 16000000, 10100, 4294967296000, 0, 0, 0, 1152941037809854776,
+	14411518807585587200U, 1700000001, 11,
+};
+
+static const uint64_t leapt_words[] = {
+	0, 1000000002, 16953395, 16777215916113920, 0, 1699999999000000005, 0, 2,
+	16777215916113920, 0, 32, 16777216, 24, 73348, 10105, 250, 80, 3, 1,
+	1700000001, 0, 2, 16000000, 16000000, 10100, 4294967296000, 0, 0, 0,
+	1152960571012901643, 17870283321406128128U, 1700000001, 1000000002,
+};
+
+static const uint64_t changed_words[] = {
+	0, 11, 8476697, 17393842, 1, 1699999999000000005, 0, 2, 16777216, 1, 64,
+	8388608, 23, 73348, 10105, 250, 80, 3, 1, 1700000001, 0, 2, 16000000, 16000000,
+	10100, 4294967296000, 0, 0, 0, 1152941037809867472, 15889305316270014464U,
+	1700000001, 11,
+};
+
+/* The words of `due_words` while the clocks are asleep, and after a change then. */
+static const uint64_t asleep_words[] = {
+	0, 7, 16777216, 0, 0, 1700000000000000005, 0, 1, 0, 0, 32, 16777216, 24, 0,
+	10000, 250, 16, 1, 1, 1700000001, 0, 2, 16000000, 16000000, 10100,
+	4294967296000, 0, 0, 0, 1152921504606846976, 0, 1700000001, 7,
+};
+
+static const uint64_t moved_words[] = {
+	0, 11, 8388608, 0, 0, 1700000000000000005, 0, 1, 0, 0, 64, 8388608, 23, 0,
+	10000, 250, 16, 1, 1, 1700000001, 0, 2, 16000000, 16000000, 10100,
+	4294967296000, 0, 0, 0, 1152921504606846976, 0, 1700000001, 11,
+};
+
+/* Words, a front of their clocks, a reading of them, and what a change of counter returns there and
+ * leaves. The second of `due_words` begins at the reading 1,000,000,002. */
+struct full_change {
+	const uint64_t *words;
+	uint64_t front, reading;
+	uint32_t code;
+	uint64_t front_after;
+	const uint64_t *words_after;
+};
+
+/* A front of 2^63 - 1 or more leaves no room for the change. With its 3 commands the second leads
+ * from 2^63 - 4 to such a front, and has begun although the change is refused. From 2^63 - 3 it
+ * can't begin. While the clocks are asleep, it doesn't, and the reading may be behind. */
+static const struct full_change full_changes[] = {
+	{ due_words, 0, 1000000001, TKC_OK, 1, early_words },
+	{ due_words, 9223372036854775806, 1000000001, TKC_OK, 9223372036854775807, early_words },
+	{ due_words, 9223372036854775807, 1000000001, TKC_FULL, 9223372036854775807, due_words },
+	{ due_words, UINT64_MAX, 1000000001, TKC_FULL, UINT64_MAX, due_words },
+	{ due_words, 0, 1000000009, TKC_OK, 4, changed_words },
+	{ due_words, 9223372036854775803, 1000000009, TKC_OK, 9223372036854775807, changed_words },
+	{ due_words, 9223372036854775804, 1000000009, TKC_FULL, 9223372036854775807, leapt_words },
+	{ due_words, 9223372036854775805, 1000000009, TKC_FULL, 9223372036854775805, due_words },
+	{ due_words, 9223372036854775807, 1000000009, TKC_FULL, 9223372036854775807, due_words },
+	{ due_words, UINT64_MAX, 1000000009, TKC_FULL, UINT64_MAX, due_words },
+	{ due_words, UINT64_MAX, 6, TKC_BEHIND, UINT64_MAX, due_words },
+	{ due_words, UINT64_MAX, 4294967296, TKC_INVALID, UINT64_MAX, due_words },
+	{ asleep_words, 9223372036854775806, 6, TKC_OK, 9223372036854775807, moved_words },
+	{ asleep_words, 9223372036854775807, 6, TKC_FULL, 9223372036854775807, asleep_words },
+	{ asleep_words, UINT64_MAX, 1000000009, TKC_FULL, UINT64_MAX, asleep_words },
+	{ asleep_words, UINT64_MAX, 4294967296, TKC_INVALID, UINT64_MAX, asleep_words },
+};
+
+static void try_full_change(const struct full_change *row)
+{
+	uint64_t words[TKC_NTP_SAVED_WORDS], wanted[TKC_NTP_SAVED_WORDS];
+	struct tkc_counter counter;
+	struct tkc_ntp ntp, before;
+
+	check(!tkc_counter_new(&counter, 64, 8388608, 23));
+	memcpy(words, row->words, sizeof(words));
+	words[0] = row->front;
+	check(!tkc_ntp_load(&ntp, words));
+	before = ntp;
+	check(tkc_ntp_change_counter(&ntp, row->reading, &counter, 11) == row->code);
+	tkc_ntp_save(words, &ntp);
+	memcpy(wanted, row->words_after, sizeof(wanted));
+	wanted[0] = row->front_after;
+	check(!memcmp(words, wanted, sizeof(words)));
+	check(row->words_after != row->words || !memcmp(&ntp, &before, sizeof(ntp)));
+}
+
 /* With a phase, each second needs one command. From the front 2^63 - 4, one of two seconds
  * begins, and the clocks are those of other clocks that have advanced so far. */
 static void try_full_amid(void)
 {
 	uint64_t words[TKC_NTP_SAVED_WORDS], others[TKC_NTP_SAVED_WORDS], second;
-	struct tkc_ntp ntp, other;
+	struct tkc_counter counter = nanosecond_counter();
+	struct tkc_ntp ntp, other, changed;
 
 	memcpy(words, steered_words, sizeof(words));
 	words[20] = 8589934592000;
 	check(!tkc_ntp_load(&other, words));
 	words[0] = INT64_MAX - 3;
 	check(!tkc_ntp_load(&ntp, words));
+	changed = ntp;
 	check(tkc_ntp_advance(&ntp, 2100000000) == TKC_FULL);
 	check(!tkc_ntp_next_second(&second, &ntp));
 	check(second > 1999000000 && second < 2001000000);
@@ -302,6 +402,8 @@ static void try_full_amid(void)
 	tkc_ntp_save(others, &other);
 	check(words[0] == INT64_MAX - 2 && others[0] == 1);
 	check(!memcmp(words + 1, others + 1, sizeof(words) - sizeof(*words)));
+	check(tkc_ntp_change_counter(&changed, 2100000000, &counter, 11) == TKC_FULL);
+	check(!memcmp(&changed, &ntp, sizeof(ntp)));
 }
 
 void try_saved_ntp(void)
@@ -317,5 +419,6 @@ void try_saved_ntp(void)
 	try_pairs();
 	try_each(late_readings, try_late_reading);
 	try_each(full_fronts, try_full_front);
+	try_each(full_changes, try_full_change);
 	try_full_amid();
 }

@@ -50,6 +50,8 @@ class Arguments:
             lambda: (self.steered.apply, near(), number(), some(), some()),
             lambda: (self.steered.step, near(), some()),
             lambda: (self.steered.leap, near(), rng.choice([-1, 1, some()]), number()),
+            lambda: (self.steered.change_counter, near(), self.narrow(),
+                     rng.choice([some(), rng.randrange(2**32)])),
             lambda: (self.steered.next_second,),
         ] + [lambda: (self.steered.adjtimex, near(), self.request())] * 4
 
@@ -68,6 +70,15 @@ class Arguments:
         if self.rng.randrange(4) == 0:
             return self.some()
         return (self.steered.snapshot().words()[1] + self.rng.randrange(2**30)) % 2**32
+
+    def narrow(self):
+        """Returns a counter of 32 bits, as that of the steered clocks is: their own, or another."""
+        return self.rng.choice([self.steered.counter, tkcore.Counter(32, 300, 5),
+                                nanosecond_counter()])
+
+    def counter_words(self):
+        counter = self.steered.counter
+        return counter.bits, counter.mult, counter.shift
 
     def words(self):
         return [self.some() for _ in range(self.rng.choice([9, 10, 10, 11, 15]))]
@@ -99,6 +110,7 @@ class Calls(unittest.TestCase):
             except tkcore.Error as error:
                 refused += 1
                 self.check_range(error, arguments)
+            self.assertEqual(given.counter_words(), given.steered.save()[10:13])
         self.assertLess(refused, BAD_CALLS)
         print(f"\n{BAD_CALLS} random calls: {refused} raised an exception of the package")
 

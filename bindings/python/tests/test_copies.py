@@ -40,7 +40,8 @@ def moves(value):
     if isinstance(value, tkcore.SteeredClock):
         return [lambda: value.advance(2_000_000_000),
                 lambda: value.set_tai_offset(2_000_000_001, 37),
-                lambda: value.adjtimex(2_000_000_002, tkcore.Timex(Mode.MAXERROR, maxerror=9))]
+                lambda: value.adjtimex(2_000_000_002, tkcore.Timex(Mode.MAXERROR, maxerror=9)),
+                lambda: value.change_counter(2_000_000_003, FINE, 4), lambda: value.suspend(5)]
     return [lambda: value.set_tick(7, 9000), lambda: value.set_frequency(8, 65_536),
             lambda: value.change_counter(9, FINE, 4), lambda: value.suspend(5)]
 
@@ -64,6 +65,19 @@ class Copies(unittest.TestCase):
                 self.check(original, take(original))
                 original = make()
                 self.check(take(original), original)
+
+    def test_a_refused_change_of_counter(self):
+        """It leaves the counter and the clocks, of copies too."""
+        for make in (opened, steered):
+            for take in COPIES:
+                clock = take(make())
+                before = state(clock)
+                for error, reading, first in ((tkcore.Behind, 2**31 + 100, 4),
+                                              (tkcore.Invalid, 2**32, 4),
+                                              (tkcore.Invalid, 9, 2**56)):
+                    with self.assertRaises(error):
+                        clock.change_counter(reading, FINE, first)
+                    self.assertEqual(state(clock), before)
 
     def test_values_that_do_not_move(self):
         request, fine = tkcore.Timex(Mode.TICK, tick=9000), tkcore.Clock(FINE, 5, 6, 4)

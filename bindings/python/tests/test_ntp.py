@@ -19,7 +19,8 @@ import compare_ntp
 
 TABLES = ["fresh", "frequencies", "pll", "fll", "microseconds", "adjtime", "inserted", "deleted",
           "set", "leaps", "deletions", "errors", "steps", "ticks", "late", "inserted_late", "late_refused",
-          "fronts", "kernel_ticks", "leap_fronts"]
+          "fronts", "kernel_ticks", "counters", "refused_counters", "leap_fronts"]
+OTHER = tkcore.Counter(64, 2**23, 23)  # the counter to which the tests change
 NAMES = {name: getattr(tkcore, name.title().replace("_", "")) for name in
          ("ASLEEP", "AWAKE", "INVALID", "BEHIND", "RANGE", "FURTHER", "NEVER", "BAD_COMMAND")}
 
@@ -72,6 +73,15 @@ class Session:
 
     def apply(self, reading, *numbers):
         self.clock.apply(reading, *numbers)
+        return "ok"
+
+    def counter(self, reading, bits, mult, shift, first):
+        """Changes the counter. The object's is that of its words, whether it was changed or not."""
+        try:
+            self.clock.change_counter(reading, tkcore.Counter(bits, mult, shift), first)
+        finally:
+            counter = self.clock.counter
+            assert (counter.bits, counter.mult, counter.shift) == self.clock.save()[10:13]
         return "ok"
 
     def adjtimex(self, reading, *numbers):
@@ -185,7 +195,9 @@ class Saved(unittest.TestCase):
     def refuse_all(self, clock, reading, code):
         """No call at this reading is accepted, and none changes the clocks."""
         self.refuse(clock, code, lambda: clock.advance(reading),
-                    lambda: clock.advance_late(reading), *self.commands(clock, reading))
+                    lambda: clock.advance_late(reading),
+                    lambda: clock.change_counter(reading, OTHER, 0),
+                    *self.commands(clock, reading))
 
     def commands(self, clock, reading):
         """Returns calls that give the clocks commands."""
@@ -193,10 +205,25 @@ class Saved(unittest.TestCase):
                 lambda: clock.adjtimex(reading, Timex(Mode.MAXERROR, maxerror=5)))
 
     def refuse(self, clock, code, *calls):
-        before = clock.save()
+        before = clock.save(), clock.counter
         for call in calls:
             raises(self, code, call)
-            self.assertEqual(clock.save(), before)
+            self.assertEqual((clock.save(), clock.counter), before)
+
+    def test_full_changes(self):
+        """A change needs room for its command. A second that is due needs room for 3, and then the
+        greatest front is that of a second, also if there is no room for the change."""
+        file = "worked_saved_ntp.c"
+        for words, front, reading, code, after, left in rows_of(file, "full_changes"):
+            clock = SteeredClock.load((front, *rows_of(file, words)[1:]))
+            with self.subTest(words=words, front=front, reading=reading):
+                found = raises(self, code, lambda: clock.change_counter(reading, OTHER, 11))
+                self.assertEqual(clock.save(), (after, *rows_of(file, left)[1:]))
+                self.assertEqual(clock.counter, nanosecond_counter() if found else OTHER)
+                if code == "FULL":
+                    is_due = reading > 1_000_000_001 and left == "due_words"
+                    self.assertEqual((found.value, found.range),
+                                     (after, (0, 2**63 - (4 if is_due else 2))))
 
     def test_readings_before_the_last_account(self):
         for reading, code in rows_of("worked_saved_ntp.c", "late_readings"):
@@ -307,6 +334,65 @@ class Arguments(unittest.TestCase):
         for reading in (1000, 10 + 2**31 - 1):
             copy.copy(self.clock).advance(reading)
             copy.copy(self.clock).advance_late(reading)
+
+    def test_numbers_of_refused_changes(self):
+        """`first` is tested before the reading. No refused change leaves another counter."""
+        narrow, mask = tkcore.Counter(8, 256, 0), 2**32 - 1
+        clock = SteeredClock(self.clock.counter, 5, 1_700_000_000 * tkcore.NANOS)
+        clock.adjtimex(1000, Timex(Mode.MAXERROR, maxerror=5))
+        for reading, first, *wanted in [
+                (4, 256, tkcore.Invalid, "first", 256, (0, 255)),
+                (2**32, -1, tkcore.Invalid, "first", -1, (0, 255)),
+                (-1, 2**64, tkcore.Invalid, "first", 2**64, (0, 255)),
+                (2**32, 255, tkcore.Invalid, "reading", 2**32, (0, mask)),
+                (-1, 255, tkcore.Invalid, "reading", -1, (0, mask)),
+                (2**64, 255, tkcore.Invalid, "reading", 2**64, (0, mask)),
+                (4, 255, tkcore.Behind, "reading", 4, (1000, 5 + 2**31 - 1)),
+                (999, 255, tkcore.Behind, "reading", 999, (1000, 5 + 2**31 - 1))]:
+            self.refuse_change(clock, reading, narrow, first, *wanted)
+        clock.suspend(2000)
+        self.refuse_change(clock, 2**32, narrow, 255, tkcore.Invalid, "reading", 2**32, (0, mask))
+        self.refuse_change(clock, 4, narrow, 256, tkcore.Invalid, "first", 256, (0, 255))
+        clock.change_counter(4, narrow, 255)
+        self.assertEqual((clock.counter, clock.save()[1], clock.snapshot().counter),
+                         (narrow, 255, narrow))
+        for reading, first in ((1.5, 0), (255, 1.5), ("1", 0), (255, None)):
+            with self.assertRaises(TypeError):
+                clock.change_counter(reading, self.clock.counter, first)
+            self.assertEqual(clock.counter, narrow)
+
+    def refuse_change(self, clock, reading, counter, first, error, *wanted):
+        before = clock.save(), clock.counter
+        with self.assertRaises(error) as raised:
+            clock.change_counter(reading, counter, first)
+        found = raised.exception
+        self.assertEqual((type(found), found.what, found.value, found.range), (error, *wanted))
+        self.assertEqual((clock.save(), clock.counter), before)
+
+    def test_a_change_at_too_low_a_rate(self):
+        """The exception is for no argument, and the clocks have only advanced."""
+        clock = SteeredClock(tkcore.Counter(32, 256, 8), 5, 1_700_000_000 * tkcore.NANOS)
+        clock.adjtimex(5, Timex(Mode.FREQUENCY | Mode.TICK, freq=-32_768_000, tick=9000))
+        advanced, former = copy.copy(clock), clock.counter
+        advanced.advance(1_113_043_488)
+        with self.assertRaises(tkcore.Range) as raised:
+            clock.change_counter(1_113_043_488, OTHER, 0)
+        self.assertEqual((raised.exception.value, raised.exception.range), (None, None))
+        self.assertEqual((clock.save(), clock.counter), (advanced.save(), former))
+
+    def test_changed_clocks_go_on(self):
+        """Copies, loaded and pickled clocks have the new counter, and a snapshot keeps its own."""
+        former, snapshot = self.clock.counter, self.clock.snapshot()
+        self.clock.change_counter(2_500_000, OTHER, 2**64 - 1)
+        self.assertEqual(snapshot.counter, former)
+        self.assertEqual(self.clock.next_second(), 499_999_999)
+        for clock in (self.clock, copy.copy(self.clock), SteeredClock.load(self.clock.save()),
+                      pickle.loads(pickle.dumps(self.clock))):
+            self.assertEqual((clock.counter, clock.snapshot().counter), (OTHER, OTHER))
+            clock.advance(2_000_000_000)
+            with self.assertRaises(tkcore.Behind) as raised:
+                clock.change_counter(2**64 - 2, former, 0)
+            self.assertEqual((raised.exception.value, clock.counter), (2**64 - 2, OTHER))
 
     def test_late_seconds(self):
         """At the reading of `advance_late`, the former snapshot gives the same MONOTONIC, and that

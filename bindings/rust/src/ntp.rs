@@ -267,6 +267,46 @@ impl SteeredClock {
         sys::ntp_apply(&mut self.value, reading, command.arguments()).map_err(Refusal::of_code)
     }
 
+    /// Advances, and lets the clocks go on over another counter, starting at its reading `first`.
+    /// `reading` is a reading of the present counter; take both at the same moment.
+    ///
+    /// Every clock keeps its time. The discipline stays, and what the clocks lag behind is carried
+    /// over. While the clocks are asleep, no second begins, they aren't brought forward to
+    /// `reading`, which may then be behind, and they stay asleep. All later readings are of the new
+    /// counter. A `Snapshot` keeps its own. The change adds 1 to the front.
+    ///
+    /// # Errors
+    ///
+    /// In this order: `Invalid` if `first` is above 2^bits - 1 of `counter`; the errors of
+    /// [`advance`](SteeredClock::advance), or, while the clocks are asleep, only `Invalid` for
+    /// `reading`. Nothing has changed then, except at `Full`. `Full`, if the front is 2^63 - 1 or
+    /// more, and `Range`, if MONOTONIC_RAW would be too far ahead of MONOTONIC for the new counter:
+    /// the clocks have only advanced.
+    ///
+    /// ```
+    /// # use tkcore::{ClockId, Counter, Refusal, SteeredClock, Timespec};
+    /// # let counter = Counter::from_hz(64, 1_000_000_000, 600)?;
+    /// # let mut clock = SteeredClock::open(&counter, 0, Timespec::default(), 250)?;
+    /// let slower = Counter::from_hz(32, 1_000_000, 600)?;
+    /// clock.change_counter(1_500_000_000, &slower, 7)?;
+    /// assert_eq!(clock.counter(), &slower);
+    /// assert_eq!(clock.next_second(), Ok(500_007));
+    /// let now = clock.snapshot().get(ClockId::Monotonic, 500_007)?;
+    /// assert_eq!(now, Timespec { sec: 2, nsec: 0 });
+    /// # Ok::<(), Refusal>(())
+    /// ```
+    pub fn change_counter(
+        &mut self,
+        reading: u64,
+        counter: &Counter,
+        first: u64,
+    ) -> Result<(), Refusal> {
+        sys::ntp_change_counter(&mut self.value, reading, &counter.value, first)
+            .map_err(Refusal::of_code)?;
+        self.counter = *counter;
+        Ok(())
+    }
+
     /// Advances, does what a request asks for, and returns the reply (adjtimex(2)).
     ///
     /// # Errors

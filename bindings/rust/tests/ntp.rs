@@ -93,12 +93,35 @@ fn asked(clock: &SteeredClock) -> String {
     format!("asked,{by},{second},{status},{frequency},{tick}")
 }
 
+fn counter_of(n: &[i128]) -> Result<Counter, Refusal> {
+    Counter::new(n[0] as u32, n[1] as u32, n[2] as u32)
+}
+
+fn counter_of_rate(n: &[i128]) -> Result<Counter, Refusal> {
+    Counter::from_hz(n[0] as u32, n[1] as u64, n[2] as u32)
+}
+
+/// Changes the counter. The object's is that of its words, whether it was changed or not.
+fn change(
+    clock: &mut SteeredClock,
+    reading: u64,
+    other: &Counter,
+    first: u64,
+) -> Result<String, Refusal> {
+    let changed = clock.change_counter(reading, other, first);
+    let words = clock.save()[10..13].iter().map(|word| i128::from(*word)).collect::<Vec<_>>();
+    assert_eq!(clock.counter(), &counter_of(&words).unwrap());
+    assert_eq!(clock.snapshot().counter(), clock.counter());
+    changed.map(|()| "ok".to_string())
+}
+
 fn answer(clock: &mut Option<SteeredClock>, record: &str) -> Result<String, Refusal> {
     let mut fields = record.split(',');
     let word = fields.next().expect("a word");
     let n: Vec<i128> = fields.map(number).collect();
-    if word == "openhz" {
-        let counter = Counter::from_hz(n[0] as u32, n[1] as u64, n[2] as u32)?;
+    if word == "openhz" || word == "open" {
+        let make = if word == "open" { counter_of } else { counter_of_rate };
+        let counter = make(&n)?;
         let start = Timespec { sec: n[4] as i64, nsec: n[5] as u32 };
         *clock = Some(SteeredClock::open(&counter, n[3] as u64, start, n[6] as u32)?);
         return Ok("open".to_string());
@@ -114,6 +137,7 @@ fn answer(clock: &mut Option<SteeredClock>, record: &str) -> Result<String, Refu
         "advance" => clock.advance(n[0] as u64).map(done),
         "late" => clock.advance_late(n[0] as u64).map(done),
         "tick" => tick(clock, n[0] as u64),
+        "counter" => change(clock, n[0] as u64, &counter_of(&n[1..])?, n[4] as u64),
         _ => {
             assert_eq!(word, "apply");
             clock.apply(n[0] as u64, command(&n)).map(done)
@@ -153,7 +177,7 @@ fn command(n: &[i128]) -> Command {
 #[test]
 fn worked_rows() {
     let rows = rows();
-    assert_eq!(rows.len(), 232);
+    assert_eq!(rows.len(), 291);
     let mut clock = None;
     for (record, wanted) in rows {
         let found = answer(&mut clock, &record).unwrap_or_else(name);
@@ -284,6 +308,25 @@ fn any_request() {
     assert!(accepted > calls() / 10 && accepted < calls());
 }
 
+/// Changes to a counter of 32 bits. Returns whether the change was accepted.
+fn change_any(clock: &mut SteeredClock, random: &mut Random, reading: u64) -> bool {
+    let (before, former) = (clock.save(), *clock.counter());
+    let numbers = [(1 << 24, 24), (300, 5)][random.below(2) as usize];
+    let other = Counter::new(32, numbers.0, numbers.1).unwrap();
+    let first = if random.below(4) == 0 { random.some() } else { random.below(1 << 32) };
+    let changed = change(clock, reading, &other, first);
+    assert_eq!(*clock.counter(), if changed.is_ok() { other } else { former });
+    match changed {
+        Ok(_) => assert_eq!(clock.save()[1], first),
+        Err(Refusal::Range) => {}
+        Err(refusal) => {
+            assert!(matches!(refusal, Refusal::Invalid | Refusal::Behind), "{refusal:?}");
+            assert_eq!(clock.save(), before);
+        }
+    }
+    changed.is_ok()
+}
+
 #[test]
 fn any_call() {
     let counter = Counter::from_hz(32, 1_000_000_000, 2).unwrap();
@@ -296,9 +339,10 @@ fn any_call() {
         // (at most half of the counter's range, and often in a row)
         let near = (clock.snapshot().words()[1] + random.below(1 << 30)) & 0xffff_ffff;
         let reading = if random.below(4) == 0 { random.some() } else { near };
-        accepted += u64::from(match random.below(7) {
+        accepted += u64::from(match random.below(8) {
             0 => clock.advance(reading).is_ok(),
             6 => clock.advance_late(reading).is_ok(),
+            7 => change_any(&mut clock, &mut random, reading),
             1 | 2 => clock.apply(reading, some_command(&mut random)).is_ok(),
             3 => clock.next_second().is_ok(),
             4 => SteeredClock::open(&counter, reading, random.time(), random.some() as u32).is_ok(),
@@ -306,6 +350,25 @@ fn any_call() {
         });
     }
     assert!(accepted > calls() / 10 && accepted < calls());
+}
+
+/// Loaded clocks and copies have the new counter. A snapshot from before keeps its own.
+#[test]
+fn changed_clocks_go_on() {
+    let counter = Counter::from_hz(32, 1_000_000, 600).unwrap();
+    let other = Counter::new(64, 1 << 23, 23).unwrap();
+    let mut clock = SteeredClock::open(&counter, 0, START, 250).unwrap();
+    let before = clock.snapshot();
+    clock.change_counter(2_500_000, &other, u64::MAX).unwrap();
+    assert_eq!((before.counter(), clock.snapshot().counter()), (&counter, &other));
+    assert_eq!(clock.next_second(), Ok(499_999_999));
+    for mut clock in [clock.clone(), SteeredClock::load(&clock.save()).unwrap()] {
+        assert_eq!(clock.counter(), &other);
+        clock.advance(2_000_000_000).unwrap();
+        let former = clock.save();
+        assert_eq!(clock.change_counter(u64::MAX - 1, &counter, 0), Err(Refusal::Behind));
+        assert_eq!((clock.counter(), clock.save()), (&other, former));
+    }
 }
 
 #[test]

@@ -115,6 +115,7 @@ _CALLS = {
     "tkc_ntp_advance": (c_uint32, [_NTP, c_uint64]),
     "tkc_ntp_advance_late": (c_uint32, [_NTP, c_uint64]),
     "tkc_ntp_apply": (c_uint32, [_NTP, c_uint64, c_uint32, c_int64, c_uint32]),
+    "tkc_ntp_change_counter": (c_uint32, [_NTP, c_uint64, _COUNTER, c_uint64]),
     "tkc_adjtimex": (c_uint32, [POINTER(TimexValue), _NUMBER, _NTP, c_uint64]),
     "tkc_ntp_next_second": (c_uint32, [_WORDS, _NTP]),
     "tkc_ntp_leap": (c_int64, [_WORDS, _NTP]),

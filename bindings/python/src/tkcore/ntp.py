@@ -12,7 +12,7 @@ from ._library import (CALLS, I64, NANOS, U32, U64, NtpSavedWords, NtpValue, Sna
 from .clock import raise_opening, split_uptime
 from .commands import TICKS, Commanded, split
 from .counter import Counter
-from .errors import BY_CODE, Behind, Invalid
+from .errors import BY_CODE, Behind, Full, Invalid
 from .snapshot import SETTABLE, Snapshot, words_of
 
 
@@ -199,6 +199,31 @@ class SteeredClock(Commanded):
         if code:
             self._refuse_call(code, reading)
 
+    def change_counter(self, reading: int, counter: Counter, first: int) -> None:
+        """Advances, and lets the clocks go on over another counter, starting at its reading
+        `first`. `reading` is a reading of the present counter; take both at the same moment.
+
+        Every clock keeps its time. The discipline stays, and what the clocks lag behind is carried
+        over. While the clocks are asleep, no second begins, they aren't brought forward to
+        `reading`, which may then be behind, and they stay asleep. All later readings are of the new
+        counter. A Snapshot keeps its own. The change adds 1 to the front.
+
+        Raises, in this order: Invalid if `first` is above the greatest reading of `counter`; what
+        `advance` raises, or, while the clocks are asleep, only Invalid for `reading`. Nothing has
+        changed then, except at Full. Raises Full if the front is 2^63 - 1 or more, and Range if
+        MONOTONIC_RAW would be too far ahead of MONOTONIC for the new counter: the clocks have only
+        advanced.
+        """
+        first = fit(first, (0, counter.max_reading), Invalid, "first")
+        code = CALLS.tkc_ntp_change_counter(byref(self._value), self._reading(reading),
+                                            byref(counter._value), first)
+        if code == Full.code:
+            self._refuse_change(reading)
+        if code:
+            self._refuse_reading(code, reading)
+            raise BY_CODE[code]("the change of counter is refused")
+        self.counter = counter
+
     def adjtimex(self, reading: int, request: Timex) -> Reply:
         """Does what a request asks for at a reading, and returns the reply (adjtimex(2)).
 
@@ -273,6 +298,13 @@ class SteeredClock(Commanded):
         fit(reading, (0, self.counter.max_reading), Invalid, "reading")
         sub = request.sub if request.modes & Mode.NANO else 1000 * request.sub
         self._refuse_time(reading, request.sec * NANOS + sub, True)
+
+    def _refuse_change(self, reading: int) -> NoReturn:
+        """Raises Full: a second that is due needs room for 3 commands, and a change for 1."""
+        front, _ = self._front_and_last()
+        value = NtpValue.from_buffer_copy(self._value)
+        is_due = CALLS.tkc_ntp_advance(byref(value), reading) == Full.code
+        raise Full("the number of accepted commands", front, (0, 2**63 - (4 if is_due else 2)))
 
     def _refuse_call(self, code: int, reading: int) -> NoReturn:
         self._refuse_reading(code, reading)

@@ -59,6 +59,12 @@ extern "C" {
     fn tkc_ntp_advance_late(ntp: *mut NtpValue, reading: u64) -> u32;
     fn tkc_ntp_apply(ntp: *mut NtpValue, reading: u64, command: u32, number: i64, nsec: u32)
         -> u32;
+    fn tkc_ntp_change_counter(
+        ntp: *mut NtpValue,
+        reading: u64,
+        counter: *const CounterValue,
+        first: u64,
+    ) -> u32;
     fn tkc_adjtimex(
         timex: *mut TimexValue,
         state: *mut u32,
@@ -128,6 +134,16 @@ pub(crate) fn ntp_apply(
 ) -> Result<(), u32> {
     // SAFETY: the clocks are a value, and nobody else has them.
     done(unsafe { tkc_ntp_apply(ntp, reading, command, number, nsec) })
+}
+
+pub(crate) fn ntp_change_counter(
+    ntp: &mut NtpValue,
+    reading: u64,
+    counter: &CounterValue,
+    first: u64,
+) -> Result<(), u32> {
+    // SAFETY: the clocks are a value that nobody else has, and the counter is a value.
+    done(unsafe { tkc_ntp_change_counter(ntp, reading, counter, first) })
 }
 
 pub(crate) fn adjtimex(ntp: &mut NtpValue, reading: u64, request: &Timex) -> Result<Reply, u32> {
