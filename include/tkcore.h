@@ -4,9 +4,10 @@
  *
  * The library has three types: the description of a counter, the running clocks of a counter, and
  * a snapshot of the clocks. A snapshot converts the counter's readings into times. A fourth type,
- * struct tkc_ntp, is clocks that are steered as by adjtimex(2). The library never reads a counter:
- * the caller passes the counter's reading to each call. Link with libtkcore.a, which needs no other
- * library: no runtime, no heap and no C library.
+ * struct tkc_ntp, is clocks that are steered as by adjtimex(2), and a fifth one, struct tkc_pps, a
+ * signal of a pulse per second for them. The library never reads a counter: the caller passes the
+ * counter's reading to each call. Link with libtkcore.a, which needs no other library: no runtime,
+ * no heap and no C library.
  *
  *     struct tkc_counter counter;
  *     struct tkc_clock clock;
@@ -59,7 +60,8 @@
  *   read rounds down to whole nanoseconds.
  *
  * Values
- *   A tkc_counter, a tkc_clock, a tkc_ntp and a tkc_snapshot are plain bytes of the size below.
+ *   A tkc_counter, a tkc_clock, a tkc_ntp, a tkc_pps and a tkc_snapshot are plain bytes of the size
+ *   below.
  *   They contain no pointer, may be copied by assignment or memcpy, and need no call to release
  *   them. C code must not write into them. As with any opaque type, a value that is passed to a
  *   call must be, byte for byte, a value that a call of this header made. All other arguments may
@@ -89,9 +91,10 @@
  *     - Link the archive of `tools/build_c --backend rattle`. The archive of LLVM uses the red zone
  *       below the stack pointer, and requires a stack that is aligned to 16 bytes.
  *     - tkc_snapshot_convert, tkc_ntp_open, tkc_ntp_open_at, tkc_ntp_advance,
- *       tkc_ntp_advance_late, tkc_ntp_apply, tkc_ntp_tick, tkc_adjtimex, tkc_ntp_save and
- *       tkc_ntp_load use SSE registers: call them between kernel_fpu_begin() and kernel_fpu_end(),
- *       and only if irq_fpu_usable(). All other calls may then be made in any context.
+ *       tkc_ntp_advance_late, tkc_ntp_apply, tkc_ntp_tick, tkc_adjtimex, tkc_ntp_pulse,
+ *       tkc_ntp_save and tkc_ntp_load use SSE registers: call them between kernel_fpu_begin() and
+ *       kernel_fpu_end(), and only if irq_fpu_usable(). All other calls may then be made in any
+ *       context.
  *   Two threads must not write one value at the same time, and no thread may write a value while
  *   another reads it. The caller's lock must prevent both (as timekeeper_lock does, and tk_core.seq
  *   for readers). tkcore_page.h contains a page for such readers. A reader in an NMI must not wait
@@ -336,6 +339,12 @@ struct tkc_ntp {
 	uint64_t tkc_private[28];
 };
 
+/* The state of a signal of a pulse per second (the variables pps_ of kernel/time/ntp.c, with
+ * CONFIG_NTP_PPS). */
+struct tkc_pps {
+	uint64_t tkc_private[10];
+};
+
 /* A request of tkc_adjtimex, and its reply (struct timex in include/uapi/linux/timex.h). It has
  * that struct's layout on x86-64, so a program's own may be passed: (struct tkc_timex *)&tx. A call
  * reads and writes no padding. */
@@ -366,7 +375,11 @@ struct tkc_timex {
 	int64_t sub;
 	/* The tick, in us. */
 	int64_t tick;
-	/* The pulse per second, which the library doesn't have: replies set these fields to 0. */
+	/* The signal of a pulse per second. tkc_adjtimex sets these fields to 0, and tkc_pps_reply
+	 * then writes them: its frequency in 2^-16 ppm; the mean jitter, in ns with TKC_STA_NANO,
+	 * otherwise in us, rounded down; the length of an interval, 2^shift s; the mean change of
+	 * the frequency, in 2^-16 ppm; and the number of pulses with too much jitter, of intervals,
+	 * of intervals that were too long, and of those with too much wander. */
 	int64_t ppsfreq;
 	int64_t jitter;
 	int32_t shift;
@@ -417,6 +430,9 @@ enum tkc_adj {
 enum tkc_sta {
 	/* Offsets steer the clock. */
 	TKC_STA_PLL = 0x0001,
+	/* A signal's frequency steers the clock, unless TKC_STA_FREQHOLD is on; its corrections do. */
+	TKC_STA_PPSFREQ = 0x0002,
+	TKC_STA_PPSTIME = 0x0004,
 	/* Offsets at least 256 s after the last one steer by the FLL too; without this bit, those
 	 * more than 2048 s after it. */
 	TKC_STA_FLL = 0x0008,
@@ -428,6 +444,13 @@ enum tkc_sta {
 	TKC_STA_UNSYNC = 0x0040,
 	/* Offsets leave the frequency as it is. */
 	TKC_STA_FREQHOLD = 0x0080,
+	/* A signal is present: tkc_ntp_pulse turns it on, and tkc_pps_seconds off, with the next
+	 * three bits. These say what is wrong with the last pulse: its time, the frequency of the
+	 * interval that it ends, or the length of this interval. */
+	TKC_STA_PPSSIGNAL = 0x0100,
+	TKC_STA_PPSJITTER = 0x0200,
+	TKC_STA_PPSWANDER = 0x0400,
+	TKC_STA_PPSERROR = 0x0800,
 	/* The clock's hardware is at fault. The library never sets it. */
 	TKC_STA_CLOCKERR = 0x1000,
 	/* Offsets and times are in ns. */
@@ -447,7 +470,7 @@ enum tkc_time_state {
 	TKC_TIME_OOP = 3,
 	/* The leap second is over, and the status still asks for it. */
 	TKC_TIME_WAIT = 4,
-	/* The status has TKC_STA_UNSYNC or TKC_STA_CLOCKERR. */
+	/* The status has TKC_STA_UNSYNC or TKC_STA_CLOCKERR, or tkc_pps_reply found an error. */
 	TKC_TIME_ERROR = 5
 };
 
@@ -1024,6 +1047,82 @@ TKC_PURE int64_t tkc_ntp_tick_length(const struct tkc_ntp *ntp);
 /* Makes a snapshot of the steered clocks for readers, as tkc_clock_snapshot does. Use it for
  * readings up to the beginning of the next second, or the next call. */
 TKC_NONNULL void tkc_ntp_snapshot(struct tkc_snapshot *out, const struct tkc_ntp *ntp);
+
+/*
+ * A signal of a pulse per second steers the clocks of a tkc_ntp, as hardpps() does in a kernel with
+ * CONFIG_NTP_PPS. docs/NTP.md, "Pulse per second", says what a pulse does. The caller keeps a
+ * tkc_pps next to the tkc_ntp, and makes these calls in addition:
+ *   - at a pulse, tkc_ntp_pulse;
+ *   - after each tkc_ntp_advance, tkc_ntp_advance_late and tkc_ntp_tick, tkc_pps_seconds with the
+ *     number of seconds that have begun. Before any other call, advance to its reading, so that it
+ *     begins no second;
+ *   - after each request that tkc_adjtimex answers, tkc_pps_ask, and then tkc_pps_reply. A FREQ of
+ *     tkc_ntp_apply is such a request, without a reply;
+ *   - after each SET_TIME, STEP and LEAP that the clocks accept, tkc_pps_clear. This holds for a
+ *     refused request too if its step was made (TKC_RANGE).
+ */
+
+/* Makes the state of a signal without a pulse (ntp_init in kernel/time/ntp.c). */
+TKC_NONNULL void tkc_pps_open(struct tkc_pps *out);
+
+/* Clears the state of a signal (pps_clear in kernel/time/ntp.c): an interval begins with the next
+ * pulse, and the frequency is 0. The counts, the mean jitter and the mean change of the frequency
+ * remain. */
+TKC_NONNULL void tkc_pps_clear(struct tkc_pps *pps);
+
+/*
+ * Returns a number that grows by 1 as each second of REALTIME begins, also by a leap second: at an
+ * insertion and at a deletion too. So the difference of two results is the number of seconds that
+ * began in between. A set, a step, a LEAP and a RESUME may change it by 1 in either direction, and
+ * begin no second.
+ */
+TKC_PURE int64_t tkc_ntp_seconds(const struct tkc_ntp *ntp);
+
+/*
+ * Counts `count` seconds of REALTIME that have begun (pps_dec_valid in kernel/time/ntp.c). If more
+ * than 10 have begun since the last pulse, the signal is lost: its state is cleared as by
+ * tkc_pps_clear, and the bits TKC_STA_PPSSIGNAL, TKC_STA_PPSJITTER, TKC_STA_PPSWANDER and
+ * TKC_STA_PPSERROR of the status are turned off. Nothing else of *ntp changes. Its time doesn't
+ * depend on `count`.
+ */
+TKC_NONNULL
+void tkc_pps_seconds(struct tkc_pps *pps, struct tkc_ntp *ntp, uint64_t count);
+
+/*
+ * Lets the signal and the clocks take a pulse (hardpps, and __hardpps in kernel/time/ntp.c). The
+ * pulse came `nsec` ns after a second of REALTIME began, 0 to 999999999, when MONOTONIC_RAW was
+ * `raw` ns, 0 to 2^63 - 1. `reading` is one of now, not of the pulse. Each second of REALTIME up to
+ * it begins first, as by tkc_ntp_advance, and then the discipline takes the pulse's frequency and
+ * correction. A frequency may change the rate at the reading, which adds up to 2 to the front.
+ *
+ * Returns, in this order, and leaves *pps as it was:
+ *   TKC_INVALID  nsec or raw is out of its range: nothing has changed
+ *   as tkc_ntp_advance
+ *                nothing has changed, except at TKC_FULL
+ *   TKC_FULL     the front is 2^63 - 3 or more: the seconds up to the reading have begun
+ */
+TKC_MUST_CHECK
+enum tkc_code tkc_ntp_pulse(struct tkc_ntp *ntp, struct tkc_pps *pps, uint64_t reading,
+			    uint32_t nsec, uint64_t raw);
+
+/*
+ * Does what an answered request changes in the signal's state (process_adjtimex_modes in
+ * kernel/time/ntp.c): a step clears it, a frequency becomes the signal's, and intervals are short
+ * again if TKC_STA_PLL is turned off. `request` is a copy from before tkc_adjtimex, which writes
+ * the reply into its struct, and `status` is tkc_ntp_status from before it.
+ */
+TKC_NONNULL
+void tkc_pps_ask(struct tkc_pps *pps, const struct tkc_timex *request, uint32_t status);
+
+/*
+ * Writes the fields of the signal into a reply of tkc_adjtimex, ppsfreq to stbcnt without the
+ * padding (pps_fill_timex in kernel/time/ntp.c). *state becomes TKC_TIME_ERROR if the status has
+ * TKC_STA_PPSFREQ or TKC_STA_PPSTIME without TKC_STA_PPSSIGNAL, TKC_STA_PPSTIME with
+ * TKC_STA_PPSJITTER, or TKC_STA_PPSFREQ with TKC_STA_PPSWANDER or TKC_STA_PPSERROR
+ * (is_error_status). Otherwise it remains.
+ */
+TKC_NONNULL
+void tkc_pps_reply(struct tkc_timex *timex, uint32_t *state, const struct tkc_pps *pps);
 
 /*
  * Stores steered clocks with their counter as 33 64-bit words, from which tkc_ntp_load makes the

@@ -29,9 +29,10 @@ TYPES = {
 }
 
 
-# Calls for programs in C: they compute with a line, and a tick is a kernel's. In the packages,
-# `advance_late`, `update` and `snapshot` do what it does.
-IN_C_ALONE = {"tkc_snapshot_line", "tkc_ntp_tick"}
+# Calls for programs in C: they compute with a line, and a tick and a pulse per second are a kernel's.
+# In the packages, `advance_late`, `update` and `snapshot` do what a tick does.
+IN_C_ALONE = {"tkc_snapshot_line", "tkc_ntp_tick", "tkc_ntp_pulse", "tkc_ntp_seconds", "tkc_pps_open",
+              "tkc_pps_clear", "tkc_pps_seconds", "tkc_pps_ask", "tkc_pps_reply", "struct tkc_pps"}
 
 
 def type_of(declared):
@@ -55,7 +56,7 @@ def header(include):
             calls[name] = type_of(result.replace("extern ", "").strip()), [*map(type_of, given)]
     sizes = dict(re.findall(r"(struct tkc_\w+) \{ \w+ tkc_private\[(\d+)\]; \};",
                             re.sub(r"\s+", " ", text)))
-    return calls, sizes
+    return calls, {name: size for name, size in sizes.items() if name not in IN_C_ALONE}
 
 
 def fits_python(found, declared):

@@ -17,6 +17,7 @@ sys.path.insert(0, str(Path(__file__).resolve().parents[1] / "model"))
 # pylint: disable=wrong-import-position
 import ntp
 import ntp_bounds
+import pps
 from model import Counter, from_hz, is_settable, limit
 from steered_clock import Refused, Steered
 
@@ -43,6 +44,11 @@ class Session:
     def with_words(self, line):
         if self.steered is None:
             return line
+        signal = self.steered.signal
+        if signal:
+            line += ",signal," + ",".join(map(str, (signal.valid, signal.shift, signal.jitter, signal.stabil,
+                                                    signal.correction, signal.balance, signal.frequency, signal.start,
+                                                    signal.calcnt, signal.jitcnt, signal.stbcnt, signal.errcnt)))
         return ",".join(map(str, [line, *self.steered.saved()]))
 
     def open(self, bits, mult, shift, reading, sec, nsec, hz):
@@ -82,19 +88,41 @@ class Session:
         return f"tick,{sum(2**bit for bit, is_so in enumerate(changed) if is_so)}"
 
     def counter(self, reading, bits, mult, shift, first):
+        if not self.steered.clock.asleep:
+            self.begin(reading)
         self.steered.change_counter(reading, Counter(bits, mult, shift), first)
         return "ok"
 
+    def signal(self):
+        self.steered.signal = pps.Pps()
+        return "signal"
+
+    def pps(self, reading, nsec, raw):
+        self.steered.pulse(reading, nsec, raw)
+        return "ok"
+
+    def begin(self, reading):
+        """Lets the seconds up to a reading begin before all else, if there is a signal."""
+        if self.steered.signal:
+            self.steered.advance(reading)
+
     def apply(self, reading, command, number, nsec):
+        if command != COMMANDS.index("resume"):
+            self.begin(reading)
         if command >= len(COMMANDS):
             raise Refused("bad_command")
         self.steered.apply(reading, COMMANDS[command], number, nsec)
         return "ok"
 
     def adjtimex(self, reading, *fields):
+        self.begin(reading)
         state, sec, sub, *others = self.steered.adjtimex(reading, ntp.Timex(*fields))
-        digits = 9 if self.steered.ntp.status & ntp.STA_NANO else 6
-        return ",".join(map(str, ["adj", state.lower(), f"{sec}.{sub:0{digits}}", *others]))
+        status, signal = self.steered.ntp.status, self.steered.signal
+        answer = ["adj", state.lower(), f"{sec}.{sub:0{9 if status & ntp.STA_NANO else 6}}", *others]
+        if signal:
+            shown, *numbers = signal.reply(status, state)
+            answer += ["pps", shown.lower(), *numbers]
+        return ",".join(map(str, answer))
 
     def get(self, clock, reading):
         self.steered.advance(reading)
@@ -131,6 +159,10 @@ class Records:
                 return self.opening()
             self.following = self.late_leap()
             return self.following.pop(0)
+        if pick == 2 and not self.session.steered.signal:
+            return "signal"
+        if self.session.steered.signal and self.random.randrange(4) == 0:
+            return self.pulse()
         if pick < 8:
             reading = self.reading()
             self.following = [self.request(reading, fields)
@@ -148,6 +180,56 @@ class Records:
 
     def request(self, reading, fields):
         return ",".join(map(str, ["adjtimex", reading, *fields]))
+
+    def pulse(self):
+        """A pulse, a request of a signal, or seldom many pulses in a row, one in each second."""
+        if self.random.randrange(8) == 0:
+            return self.ask_signal(self.reading())
+        if self.random.randrange(60) == 0 and not self.session.steered.clock.asleep:
+            self.following = self.train()
+            return self.following.pop(0)
+        return f"pps,{self.reading()},{self.nsec()},{self.raw()}"
+
+    def nsec(self):
+        return self.random.choice(6 * [self.random.randrange(2_000)]
+                                  + [500_000_000, 500_000_001, 999_999_999, 10**9, 2**32 - 1,
+                                     self.random.randrange(10**9)])
+
+    def raw(self):
+        """MONOTONIC_RAW about some seconds after the interval's beginning; seldom any number."""
+        if self.random.randrange(30) == 0:
+            return self.random.choice([0, 10**9 - 1, 10**9, 2**63 - 1, 2**63, 2**64 - 1, self.random.randrange(2**64)])
+        start, secs = self.session.steered.signal.start, self.random.choice([1, 4, 4, 5, 9, self.random.randrange(600)])
+        gained = self.random.choice([0, 100_000, 100_001, 500_000, 500_001, self.random.randrange(500_000)])
+        sign = self.random.choice([1, -1])
+        return min(max(start, 10**9) + secs * 10**9 + sign * gained * secs, 2**64 - 1)
+
+    def train(self):
+        """Many pulses, a second apart."""
+        steered, records = self.session.steered, []
+        counter = steered.clock.counter
+        second = -(-(10**9 << counter.shift) // counter.mult)
+        raw, gained, noise = 10**10, self.random.randrange(-450_000, 450_000), self.random.choice([1, 100, 100_000])
+        for place in range(1, self.random.choice([30, 300])):
+            if place * second >= 2**counter.bits // 2:
+                break
+            reading = (steered.mark + place * second) % 2**counter.bits
+            raw += 10**9 + gained + self.random.randrange(-noise, noise + 1)
+            records.append(f"pps,{reading},{self.random.randrange(noise)},{raw}")
+            if self.random.randrange(20) == 0:
+                records.append(self.ask_signal(reading))
+            if place % 50 == 0:
+                records.append(f"apply,{reading},0,0,0")
+        return records or ["front"]
+
+    def ask_signal(self, reading):
+        """A request of a status for a signal, often with an offset or a frequency."""
+        bits = [pps.STA_PPSFREQ, pps.STA_PPSTIME, ntp.STA_PLL, ntp.STA_NANO, ntp.STA_FREQHOLD]
+        status = sum({self.random.choice(bits) for _ in range(self.random.randrange(5))})
+        modes = ntp.STATUS | self.random.choice([0, 0, ntp.NANO, ntp.FREQUENCY, ntp.OFFSET, ntp.SETOFFSET])
+        numbers = {"offset": self.random.randrange(10**6), "freq": self.random.randrange(-10**7, 10**7),
+                   "sec": self.random.choice([0, 1, -1])}
+        return self.request(reading, ntp_bounds.fields(modes, status=status, **numbers))
 
     def counter(self):
         """Numbers of a counter, and a reading of it, seldom one above its mask."""

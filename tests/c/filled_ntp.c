@@ -115,6 +115,48 @@ static void ntp_reply(void *out)
 	memcpy(out, &timex, sizeof(timex));
 }
 
+static void pps_open(void *out)
+{
+	make(tkc_pps_open(out));
+}
+
+/* Each call of a signal, with an interval that has ended. */
+static void pps_taken(void *out)
+{
+	struct tkc_timex timex = request(TKC_ADJ_STATUS | TKC_ADJ_FREQUENCY);
+	struct tkc_ntp ntp;
+
+	ntp_steered(&ntp);
+	pps_open(out);
+	made(tkc_ntp_pulse(&ntp, out, 2 * (uint64_t)SECOND, 5, SECOND));
+	made(tkc_ntp_pulse(&ntp, out, 6 * (uint64_t)SECOND, 5, 5 * (uint64_t)SECOND));
+	make(tkc_pps_seconds(out, &ntp, 4));
+	make(tkc_pps_ask(out, &timex, TKC_STA_PLL));
+	make(tkc_pps_clear(out));
+}
+
+/* The clocks after pulses, and after their signal was lost. */
+static void ntp_pulsed(void *out)
+{
+	struct tkc_pps pps;
+
+	ntp_steered(out);
+	pps_open(&pps);
+	made(tkc_ntp_pulse(out, &pps, 2 * (uint64_t)SECOND, 5, SECOND));
+	made(tkc_ntp_pulse(out, &pps, 6 * (uint64_t)SECOND, 5, 5 * (uint64_t)SECOND));
+	make(tkc_pps_seconds(&pps, out, 11));
+}
+
+static void pps_reply(void *out)
+{
+	struct tkc_pps pps;
+	uint32_t state = 0;
+
+	pps_taken(&pps);
+	ntp_reply(out);
+	make(tkc_pps_reply(out, &state, &pps));
+}
+
 static void ntp_snapshot(void *out)
 {
 	struct tkc_ntp ntp;
@@ -162,6 +204,10 @@ const struct filled filled_ntp[] = {
 	{ "ntp_load", ntp_load, sizeof(struct tkc_ntp) },
 	{ "ntp_save", ntp_save, sizeof(uint64_t[TKC_NTP_SAVED_WORDS]) },
 	{ "ntp_reply", ntp_reply, sizeof(struct tkc_timex) },
+	{ "ntp_pulsed", ntp_pulsed, sizeof(struct tkc_ntp) },
+	{ "pps_open", pps_open, sizeof(struct tkc_pps) },
+	{ "pps_taken", pps_taken, sizeof(struct tkc_pps) },
+	{ "pps_reply", pps_reply, sizeof(struct tkc_timex) },
 	{ "ntp_leap", ntp_leap, sizeof(uint64_t) },
 	{ "ntp_snapshot", ntp_snapshot, sizeof(struct tkc_snapshot) },
 	{ "ntp_ticked", ntp_ticked, sizeof(struct tkc_snapshot) },

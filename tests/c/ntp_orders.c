@@ -28,6 +28,15 @@ static void print_words(struct tkc_ntp *ntp)
 	check(!memcmp(again, words, sizeof(words)));
 }
 
+/* Moves the state of a signal to other memory and back: its bytes are all that it is. */
+static void move_signal(struct tkc_pps *pps)
+{
+	struct tkc_pps moved = *pps;
+
+	memset(pps, 7, sizeof(*pps));
+	*pps = moved;
+}
+
 int main(void)
 {
 	static struct session session;
@@ -38,6 +47,7 @@ int main(void)
 		record[strcspn(record, "\n")] = '\0';
 		answer(&session, record, line);
 		is_open = is_open || !strcmp(line, "open");
+		move_signal(&session.pps);
 		fputs(line, stdout);
 		if (is_open)
 			print_words(&session.ntp);

@@ -57,6 +57,10 @@ _Static_assert((int)TKC_STA_PLL == STA_PLL && (int)TKC_STA_FLL == STA_FLL &&
 	       (int)TKC_STA_UNSYNC == STA_UNSYNC && (int)TKC_STA_FREQHOLD == STA_FREQHOLD &&
 	       (int)TKC_STA_CLOCKERR == STA_CLOCKERR && (int)TKC_STA_NANO == STA_NANO &&
 	       (int)TKC_STA_MODE == STA_MODE, "status bits");
+_Static_assert((int)TKC_STA_PPSFREQ == STA_PPSFREQ && (int)TKC_STA_PPSTIME == STA_PPSTIME &&
+	       (int)TKC_STA_PPSSIGNAL == STA_PPSSIGNAL && (int)TKC_STA_PPSJITTER == STA_PPSJITTER &&
+	       (int)TKC_STA_PPSWANDER == STA_PPSWANDER && (int)TKC_STA_PPSERROR == STA_PPSERROR,
+	       "status bits of a signal");
 _Static_assert((int)TKC_TIME_OK == TIME_OK && (int)TKC_TIME_INS == TIME_INS &&
 	       (int)TKC_TIME_DEL == TIME_DEL && (int)TKC_TIME_OOP == TIME_OOP &&
 	       (int)TKC_TIME_WAIT == TIME_WAIT && (int)TKC_TIME_ERROR == TIME_ERROR, "states");

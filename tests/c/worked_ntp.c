@@ -273,4 +273,5 @@ void try_ntp(void)
 	try_each(steps, try_ntp_row);
 	try_each(ticks, try_ntp_row);
 	try_late_ntp();
+	try_pulses();
 }

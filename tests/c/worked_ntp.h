@@ -1,5 +1,5 @@
 /* SPDX-License-Identifier: MIT OR Apache-2.0 */
-/* What worked_ntp.c and worked_late_ntp.c share. */
+/* What worked_ntp.c, worked_late_ntp.c and worked_pulses.c share. */
 #ifndef WORKED_NTP_H
 #define WORKED_NTP_H
 
@@ -14,5 +14,6 @@ struct ntp_row {
 /* Passes the record to the session of worked_ntp.c, and checks the answer. */
 void try_ntp_row(const struct ntp_row *row);
 void try_late_ntp(void);
+void try_pulses(void);
 
 #endif

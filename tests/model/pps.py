@@ -27,6 +27,7 @@ LEAST_SHIFT, GREATEST_SHIFT = 2, 8                  # 4 s and 256 s
 PATIENCE = 4                                        # good or bad intervals until the length changes
 MOST_WANDER = 100_000                               # ns/s
 BITS = STA_PPSJITTER | STA_PPSWANDER | STA_PPSERROR
+SIGNAL_BITS = BITS | STA_PPSSIGNAL
 MOST = 2**63 - 1
 
 
@@ -191,7 +192,7 @@ class Session(ntp.Session):
     def begin(self, sec):
         line = super().begin(sec)
         if self.pps and self.pps.second():
-            self.ntp.status &= ~(BITS | STA_PPSSIGNAL)
+            self.ntp.status &= ~SIGNAL_BITS
         return line
 
     def clear(self):

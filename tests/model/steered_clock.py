@@ -10,6 +10,7 @@ from dataclasses import dataclass, replace
 from model import LEAST_FREQUENCY, LEAST_TICK, NANOS, TAI_LIMIT, Counter, is_bad_setting, is_settable, limit, value_of
 from ntp import (ADJTIME, ERROR_LIMIT, FREQUENCY, MAX_FREQUENCY, NANO, OFFSET, ONE, PPM16, READONLY, SETOFFSET, TAI,
                  TICK, Discipline, Timex, clamp)
+from pps import SIGNAL_BITS, take
 
 NOMINAL = NANOS * ONE                               # the length of a nominal second
 TICK_RATE = 6_553_600                               # a tick of 1 us, in 2^-16 ppm
@@ -137,12 +138,12 @@ def are_in_range(hz, _status, state, is_due, due, offset, constant, maxerror, es
 class Steered:
     """Clocks and a discipline. `mark` is the reading that the lag was computed at, `next` the second of
     REALTIME that begins next, `front` the number of commands that the clocks have accepted, those of the discipline
-    included."""
+    included. `signal` is a signal of a pulse per second (pps.py), if there is one."""
 
     def __init__(self, counter, reading, real, hz, uptime=0):
         units = uptime << counter.shift
         self.clock = Clock(counter, reading, real - uptime, amount=units, raw_amount=units)
-        self.ntp, self.front = Discipline(hz), 0
+        self.ntp, self.front, self.signal = Discipline(hz), 0, None
         self.lag, self.mark, self.next = 0, reading, real // NANOS + 1
 
     def numbers(self):
@@ -225,13 +226,20 @@ class Steered:
         at = self.clock.reading_of(self.next * NANOS)
         return None if at is None or self.clock.cycles(at) > self.clock.cycles(reading) else at
 
+    def overflow(self):
+        """Lets the discipline's next second begin, and returns its leap. A signal counts the second at once."""
+        leap = self.ntp.overflow(self.next)
+        self.next += 1
+        if self.signal and self.signal.second():
+            self.ntp.status &= ~SIGNAL_BITS
+        return leap
+
     def advance(self, reading):
         """Lets each second up to a reading begin, at the reading at which it begins."""
         self.test(reading)
         while (at := self.due(reading)) is not None:
             self.account(at)
-            leap = self.ntp.overflow(self.next)
-            self.next += 1
+            leap = self.overflow()
             if leap:
                 self.next += self.leap(at, leap)
             self.steer(at)
@@ -241,8 +249,7 @@ class Steered:
         self.test(reading)
         while (at := self.due(reading)) is not None:
             self.account(self.mark if self.clock.counter.is_behind(self.mark, at) else at)
-            leap = self.ntp.overflow(self.next)
-            self.next += 1
+            leap = self.overflow()
             self.account(reading)
             if leap:
                 self.next += self.leap(reading, leap)
@@ -268,6 +275,8 @@ class Steered:
         if word in SETTING:
             self.ntp.clear()
             self.lag = 0
+            if self.signal:
+                self.signal.clear()
         if word in (*SETTING, "resume"):
             self.mark, self.next = reading, self.clock.value("realtime", reading) // NANOS + 1
             self.steer(reading)
@@ -283,7 +292,7 @@ class Steered:
         if real >= limit("realtime"):
             raise Refused("range")
         sec, nsec = divmod(real, NANOS)
-        offset = None
+        offset, status = None, self.ntp.status
         if t.modes & ADJTIME:
             offset = self.ntp.adjust
             if not t.modes & READONLY:
@@ -295,7 +304,21 @@ class Steered:
             self.ntp.request(t, sec, self.clock.tai)
             if t.modes & (OFFSET | FREQUENCY | TICK):
                 self.steer(reading)
+        if self.signal:
+            self.signal.ask(t, status)
         return self.ntp.reply(offset, sec, nsec, self.clock.tai)
+
+    def pulse(self, reading, nsec, raw):
+        """A pulse of the signal. The seconds up to its reading begin first."""
+        if nsec >= NANOS or raw >= 2**63:
+            raise Refused("invalid")
+        self.advance(reading)
+        pulse = self.signal.pulse(nsec, raw)
+        if pulse.frequency is not None:
+            self.account(reading)
+        take(self.ntp, pulse)
+        if pulse.frequency is not None:
+            self.steer(reading)
 
     def change_counter(self, reading, counter, first):
         """Goes on over another counter: the seconds up to `reading` begin first, and the lag is carried over."""

@@ -25,3 +25,5 @@ pub mod CountedNtp
 pub mod Cycles
 pub mod Ticks
 pub mod ChangeNtpCounter
+pub mod Pps
+pub mod Pulses

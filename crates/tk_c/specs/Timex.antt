@@ -4,6 +4,7 @@ use Rattle.std.specs.Prelude.{ℕ, pos}
 use Rattle.tk_ntp.specs.declared.timex.Timex.{Timex}
 use Rattle.tk_ntp.specs.declared.reply.Reply.{Reply}
 use Rattle.tk_ntp.specs.declared.reply.TimeState.{TimeState}
+use Rattle.tk_ntp.specs.declared.pps_reply.PpsReply.{PpsReply}
 use Rattle.tk_ntp.specs.declared.reply.TimeState.TheVariants.{Ok, Ins, Del, Oop, Wait, Error}
 use Rattle.tk_c.specs.declared.timex.KernelTimex.{KernelTimex}
 
@@ -22,7 +23,20 @@ request_of timex = record {
   sub = timex.sub;
 }
 
--- the fields of the pulse per second are 0, since nothing measures one (pps_fill_timex)
+-- the fields of the pulse per second are those of a signal (pps_fill_timex)
+abbrev pub shown_reply : KernelTimex → PpsReply → KernelTimex
+shown_reply timex reply = record timex {
+  ppsfreq = reply.ppsfreq;
+  jitter = reply.jitter;
+  shift = pos reply.shift;
+  stabil = reply.stabil;
+  jitcnt = reply.jitcnt;
+  calcnt = reply.calcnt;
+  errcnt = reply.errcnt;
+  stbcnt = reply.stbcnt;
+}
+
+-- the fields of the pulse per second are 0, for clocks without a signal
 abbrev pub without_pulse : KernelTimex → KernelTimex
 without_pulse timex = record timex {
   ppsfreq = pos 0;

@@ -7,11 +7,12 @@
 //! | `tkc_clock_*` | open the running clocks, apply commands, change the counter, return the frequency and the tick, convert clocks to and from words, with their counter or without |
 //! | `tkc_snapshot_*` | read one time, at a reading or at the last command, or a list of times; test a step; find the reading of a time, return a clock's line and a snapshot's numbers, convert snapshots to and from words |
 //! | `tkc_ntp_*`, `tkc_adjtimex` | open steered clocks, advance them, apply commands, pass ticks, change the counter, answer requests, return the coming leap and numbers of the discipline, convert them to and from words with their counter |
+//! | `tkc_pps_*`, `tkc_ntp_pulse`, `tkc_ntp_seconds` | keep the state of a signal of a pulse per second next to steered clocks, which take its pulses |
 //! | `tkc_version` | returns the archive's version |
 //! | `CountedClock` | the clocks with their count of commands, `struct tkc_clock` in C |
 //! | `CountedNtp`, `SteeredCount`, `NtpStorage` | steered clocks with their count of commands, `struct tkc_ntp` in C |
 //! | `KernelTimex` | a request and its reply, `struct tkc_timex` in C |
-//! | `CounterStorage`, `ClockStorage`, `SnapshotStorage`, `DisciplineStorage`, `TimeStorage` | memory that a value is written to |
+//! | `CounterStorage`, `ClockStorage`, `SnapshotStorage`, `DisciplineStorage`, `PpsStorage`, `TimeStorage` | memory that a value is written to |
 //! | `Code` | the codes that calls return |
 //!
 //! Units are the same as in tk_clock; include/tkcore.h states them for C. No call allocates or
@@ -35,6 +36,9 @@ mod ntp;
 mod ntp_storage;
 mod number_words;
 mod parts;
+mod pps;
+mod pps_storage;
+mod pulses;
 mod reached;
 mod saved;
 mod saved_ntp;
@@ -69,6 +73,11 @@ pub use ntp_storage::{DisciplineStorage, NtpStorage};
 pub use parts::{
     tkc_clock_frequency, tkc_clock_tick, tkc_snapshot_asleep, tkc_snapshot_front, tkc_snapshot_tai,
 };
+pub use pps::{
+    tkc_ntp_seconds, tkc_pps_ask, tkc_pps_clear, tkc_pps_open, tkc_pps_reply, tkc_pps_seconds,
+};
+pub use pps_storage::PpsStorage;
+pub use pulses::tkc_ntp_pulse;
 pub use reached::tkc_snapshot_reading;
 pub use saved::{SAVED_WORDS, tkc_clock_load, tkc_clock_save};
 pub use saved_ntp::{NTP_SAVED_WORDS, tkc_ntp_load, tkc_ntp_save};

@@ -1,9 +1,9 @@
 //! Describes a request as C passes it, in the memory that the reply is written to.
-ghost use Rattle.std.specs.Prelude.{◌≡◌};
-ghost use Rattle.tk_c.specs.Timex.{request_of, without_pulse, answered, state_number};
+ghost use Rattle.std.specs.Prelude.{◌≡◌, ◌≤◌};
+ghost use Rattle.tk_c.specs.Timex.{request_of, without_pulse, answered, shown_reply, state_number};
 
 use std::mem::size_of;
-use tk_ntp::{Reply, TimeState, Timex};
+use tk_ntp::{PpsReply, Reply, TimeState, Timex};
 
 const _: () = prove!(size_of::<KernelTimex>() == 208);
 
@@ -42,23 +42,23 @@ pub struct KernelTimex {
     pub sub: i64,
     /// The tick.
     pub tick: i64,
-    /// The frequency of the pulse per second: 0 in a reply.
+    /// The frequency of the pulse per second: 0 without a signal.
     pub ppsfreq: i64,
-    /// The jitter of the pulse: 0 in a reply.
+    /// The jitter of the pulse: 0 without a signal.
     pub jitter: i64,
-    /// The length of a calibration: 0 in a reply.
+    /// The length of a calibration: 0 without a signal.
     pub shift: i32,
     /// Aligns the next field.
     pub shift_padding: u32,
-    /// The wander of the pulse: 0 in a reply.
+    /// The wander of the pulse: 0 without a signal.
     pub stabil: i64,
-    /// The pulses with too much jitter: 0 in a reply.
+    /// The pulses with too much jitter: 0 without a signal.
     pub jitcnt: i64,
-    /// The calibrations: 0 in a reply.
+    /// The calibrations: 0 without a signal.
     pub calcnt: i64,
-    /// The calibrations that failed: 0 in a reply.
+    /// The calibrations that failed: 0 without a signal.
     pub errcnt: i64,
-    /// The calibrations with too much wander: 0 in a reply.
+    /// The calibrations with too much wander: 0 without a signal.
     pub stbcnt: i64,
     /// TAI minus REALTIME, in seconds.
     pub tai: u32,
@@ -104,7 +104,22 @@ impl KernelTimex {
         self.tai = reply.tai;
     }
 
-    /// Sets the fields of the pulse per second, which is not implemented, to 0 (`pps_fill_timex`).
+    /// Writes the fields of a signal (`pps_fill_timex`).
+    pub(crate) fn show(&mut self, reply: &PpsReply)
+        requires { reply.now.shift ≤ 8 }
+        ensures { self.new ≡ shown_reply self.old reply.now }
+    {
+        self.ppsfreq = reply.ppsfreq;
+        self.jitter = reply.jitter;
+        self.shift = reply.shift as i32;
+        self.stabil = reply.stabil;
+        self.jitcnt = reply.jitcnt;
+        self.calcnt = reply.calcnt;
+        self.errcnt = reply.errcnt;
+        self.stbcnt = reply.stbcnt;
+    }
+
+    /// Sets the fields of the pulse per second to 0, as for clocks without a signal.
     fn clear_pulse(&mut self)
         ensures { self.new ≡ without_pulse self.old }
     {

@@ -41,6 +41,7 @@ pub mod Due
 pub mod Multipliers
 pub mod Unchanged
 pub mod Pulses
+pub mod PulseSeconds
 pub mod Silent
 pub mod Worked
 mod Turning

@@ -1,11 +1,18 @@
 -- The seconds that begin as steered clocks are advanced: what they give of an offset, and TAI.
-use Rattle.std.specs.Prelude.{◌≡◌, ℕ, List, [], ◌∷◌, pos, ◌+ℤ◌, ◌<ℤ◌, ⊤}
+use Rattle.std.specs.Prelude.{◌≡◌, ℕ, List, [], ◌∷◌, ℤ, pos, ◌+ℤ◌, ◌-ℤ◌, ◌<ℤ◌, ⊤}
+use Rattle.std.specs.Int.{int_div_euclid}
 use Rattle.tk_clock.specs.declared.clock_id.ClockId.TheVariants.{Tai as TaiClock}
 use Rattle.tk_clock.specs.Limits.{greatest_tai}
 use Rattle.tk_clock.specs.State.{State, base_value}
 use Rattle.tk_ntp.specs.Advance.{IsAdvanced, Arrived, Begins, second_begun_at}
 use Rattle.tk_ntp.specs.Given.{after as after_seconds, given as given_of_offset}
 use Rattle.tk_ntp.specs.SteeredClock.{SteeredClock}
+
+-- a number that grows by 1 as each second begins, also by a leap, which moves REALTIME: MONOTONIC as
+-- the next one begins, in seconds, rounded up
+abbrev pub second_number : SteeredClock → ℤ
+second_number steered =
+    pos steered.next -ℤ int_div_euclid steered.clock.base.real_offset (pos 1000000000)
 
 -- the seconds of REALTIME that begin, in their order
 abbrev pub seconds_of : (reading : ℕ) (before after : SteeredClock) →

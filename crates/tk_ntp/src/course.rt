@@ -22,6 +22,7 @@ pub use advancing::SECOND_ENTRIES_LIMIT;
 pub use asking::{REQUEST_ENTRIES_LIMIT, request_of};
 use std::marker::Model;
 use tk_clock::{Clock, ClockId, Refusal, Timespec};
+use tk_counter::NANOS_PER_SECOND;
 
 /// Keeps a discipline on its way: what steers clocks, but not the clocks.
 ///
@@ -66,6 +67,7 @@ impl Course {
     ghost use Rattle.tk_ntp.specs.Asked.{with_asked};
     ghost use Rattle.tk_ntp.specs.Course.{seen};
     ghost use Rattle.tk_ntp.specs.Fault.{is_faulty};
+    ghost use Rattle.tk_ntp.specs.History.{second_number};
     ghost use Rattle.tk_ntp.specs.Ntp.{second_length};
     ghost use Rattle.tk_ntp.specs.Numbers.{course_numbers, steered_numbers};
     ghost use Rattle.tk_ntp.specs.Reply.{reply_to};
@@ -99,6 +101,18 @@ impl Course {
         ensures value { result ≡ self.now.next }
     {
         self.next
+    }
+
+    /// Returns a number that grows by 1 as each second of REALTIME begins, also by a leap: MONOTONIC
+    /// as the next one begins, in seconds, rounded up.
+    ///
+    /// The difference of two of them is the number of seconds that have begun in between, unless
+    /// REALTIME was set or stepped, or the clocks slept: then it is within 1 of it.
+    pub fn second_number(&self, clock: &Clock) -> i64
+        ensures { result ≡ second_number (seen clock.now self.now) }
+    {
+        let offset = clock.snapshot(0).real_offset() / NANOS_PER_SECOND;
+        self.next as i64 - offset as i64
     }
 
     /// Returns the reading up to which the lag is accounted for, in cycles.

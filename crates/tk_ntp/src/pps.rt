@@ -1,6 +1,6 @@
 //! Keeps the state of a signal of a pulse per second.
 ghost use Rattle.std.specs.Prelude.{◌≡◌, ◌^◌, ◌<◌};
-ghost use Rattle.tk_ntp.specs.Pps.{no_signal, pps_cleared, with_short_interval, is_lost, pps_second, stepped, turns_pll_off, with_interval_kept, with_asked_frequency, pps_asked};
+ghost use Rattle.tk_ntp.specs.Pps.{no_signal, pps_cleared, with_short_interval, is_lost, pps_second, pps_seconds, is_lost_in, stepped, turns_pll_off, with_interval_kept, with_asked_frequency, pps_asked};
 
 mod interval;
 mod measuring;
@@ -160,6 +160,24 @@ impl Pps {
             return true;
         }
         self.valid -= 1;
+        false
+    }
+
+    /// Counts some seconds of REALTIME that have begun, as that many calls of `second` do. Returns
+    /// whether the signal counts as lost at one of them; call `Discipline::lose_signal` then.
+    ///
+    /// An owner may let several seconds begin in a call, and count them after it. While the signal
+    /// is present, the first of them gives the whole offset, so the others don't need the signal.
+    pub fn seconds(&mut self, count: u64) -> bool
+        ensures state { self.new ≡ pps_seconds count self.old }
+        ensures lost { result ≡ is_lost_in count self.old }
+    {
+        if u64::from(self.valid) < count {
+            self.valid = 0;
+            self.clear();
+            return true;
+        }
+        self.valid -= count as u32;
         false
     }
 

@@ -15,6 +15,7 @@ mod numbers;
 mod rates;
 mod readings;
 mod requests;
+mod signals;
 mod ticks;
 mod uptimes;
 

@@ -35,6 +35,9 @@ static enum tkc_code tk_check(enum tkc_code code)
 	return code;
 }
 
+struct __kernel_timex;
+
+#include "../tkcore/pps.h"
 #include "../tkcore/late.h"
 #include "../tkcore/change_counter.h"
 

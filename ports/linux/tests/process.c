@@ -137,6 +137,17 @@ int process_settime(s64 sec, s64 nsec, u64 reading)
 	return do_settimeofday64(&time);
 }
 
+#ifdef CONFIG_NTP_PPS
+/* A pulse came `nsec` ns after a second of REALTIME, when MONOTONIC_RAW was `raw` ns. */
+void process_pulse(u32 nsec, u64 raw, u64 reading)
+{
+	struct timespec64 phase = { 1, nsec }, raw_time = ns_to_timespec64(raw);
+
+	now = reading;
+	hardpps(&phase, &raw_time);
+}
+#endif
+
 void process_suspend(u64 reading)
 {
 	now = reading;

@@ -9,6 +9,7 @@ tests/kernel_ntp. SOURCES may name a folder that kernel.unpack has filled. Then 
 calls:
 
   - all clocks of the port, also by the reads for an NMI, with the definitions of tests/model: equal
+  - with CONFIG_NTP_PPS, pulses too, and the fields of each reply that show the signal: equal
   - the errno of wrong arguments of adjtimex(2) and settimeofday(2) with the unmodified kernel's:
     equal
   - their audit records, and the number of their log lines of leap seconds: equal
@@ -39,13 +40,16 @@ import kernel  # noqa: E402
 from kernel import Timex  # noqa: E402
 from late import Orders  # noqa: E402
 from model import NANOS, Counter  # noqa: E402
+from ntp import STA_PLL, STA_PPSFREQ, STA_PPSSIGNAL, STA_PPSTIME, STATUS  # noqa: E402
 from ntp import Timex as Request  # noqa: E402
+from pps import Pps  # noqa: E402
 from single import compare_tick_adj, pass_limit, swing, ticks_back  # noqa: E402
 from steered_clock import Refused, Steered  # noqa: E402
 from wrong_calls import Wrong, s64, u64  # noqa: E402
 
 HZ = 250
 STATES = "Ok", "Ins", "Del", "Oop", "Wait", "Error"
+SIGNAL = "ppsfreq", "jitter", "shift", "stabil", "jitcnt", "calcnt", "errcnt", "stbcnt"
 EINVAL = -22
 SWING_NS = 100  # that MONOTONIC may be off by between rare ticks
 OTHER = 0x123456789abcd  # by how much the other counter's readings are ahead
@@ -68,7 +72,8 @@ def compile_one(folder, name, dist, *flags):
 
 
 def compile_all(folder, dist):
-    """Returns the calls of the unmodified kernel, of the port, and of the port as a control."""
+    """Returns the calls of the unmodified kernel, and of the port: as it is, as a control, and with
+    CONFIG_NTP_PPS."""
     if kept := os.environ.get("SOURCES"):
         shutil.copytree(kept, folder, symlinks=True, dirs_exist_ok=True)
     else:
@@ -81,7 +86,8 @@ def compile_all(folder, dist):
     subprocess.run([HERE.parent / "apply", folder], check=True)
     shutil.copy(dist / "include/tkcore.h", folder / "kernel/time/tkcore/tkcore.h")
     return (unmodified, compile_one(folder, "tkcore", dist, "-DTKC_CONTROL=0"),
-            compile_one(folder, "control", dist, "-DTKC_CONTROL=1"))
+            compile_one(folder, "control", dist, "-DTKC_CONTROL=1"),
+            compile_one(folder, "pulses", dist, "-DTKC_CONTROL=0", "-DCONFIG_NTP_PPS=1"))
 
 
 def finer(bits, mult, shift):
@@ -153,10 +159,18 @@ class Timeline(Orders):
         fields = {"modes": int(modes), "offset": int(offset), "freq": int(freq),
                   "status": int(status), "constant": int(constant), "tick": int(tick)}
         reading = self.reading()
-        got = self.calls.process_adjtimex(ctypes.byref(Timex.of(**fields)), self.at(reading))
+        timex = Timex.of(**fields)
+        got = self.calls.process_adjtimex(ctypes.byref(timex), self.at(reading))
         self.forward_to(reading)
         reply = self.steered.adjtimex(reading, Request(**fields))
-        self.expect(got, STATES.index(reply[0]), "adjtimex")
+        state, *signal = self.signal_of(reply[0])
+        self.expect(got, STATES.index(state), "adjtimex")
+        self.expect([getattr(timex, it) for it in SIGNAL], signal, "the signal's fields")
+
+    def signal_of(self, state):
+        """The state of a reply and the fields that show the signal: 0 without one."""
+        signal = self.steered.signal
+        return signal.reply(self.steered.ntp.status, state) if signal else [state] + [0] * len(SIGNAL)
 
     def sleep(self):
         reading, ns = self.reading(), self.random.choice([0, 10**9, 12_345_678_901])
@@ -208,15 +222,55 @@ class Timeline(Orders):
         leap = second * NANOS - clock.real_offset if by == -1 else 2**63 - 1
         self.expect(self.calls.process_leap(), leap, "leap")
 
+    def kind(self):
+        return self.random.choices(["tick", "set", "request", "sleep", "switch"],
+                                   [68, 5, 22, 3, 2])[0]
+
     def step(self):
         """Makes a call, and compares all clocks some time later."""
-        kind = self.random.choices(["tick", "set", "request", "sleep", "switch"],
-                                   [68, 5, 22, 3, 2])[0]
+        kind = self.kind()
         self.kinds[kind] = self.kinds.get(kind, 0) + 1
         getattr(self, kind)()
         clock = self.steered.clock
         later = (self.random.randrange(10**9) << clock.counter.shift) // clock.counter.mult
         self.compare((clock.last + later) % 2**clock.counter.bits)
+
+
+class PulseTimeline(Timeline):
+    """The same with CONFIG_NTP_PPS: half of the calls are pulses, most a second after the last one."""
+
+    def __init__(self, seed, calls):
+        super().__init__(seed, calls)
+        self.steered.signal, self.raw, self.drift = Pps(), 10 * NANOS, 30_000
+        self.taken = self.lost = 0
+
+    def kind(self):
+        return "pulse" if self.random.randrange(2) else super().kind()
+
+    def ask(self):
+        """A request, whose status often has the bits of a signal."""
+        order, follow = super().ask()
+        words = order.split()
+        if self.random.randrange(2):
+            words[2] = str(int(words[2]) | STATUS)
+            bits = [0, STA_PPSFREQ, STA_PPSTIME, STA_PPSFREQ | STA_PPSTIME]
+            words[5] = str(self.random.choice(bits) | self.random.choice([0, STA_PLL]))
+        return " ".join(words), follow
+
+    def pulse(self):
+        signal, counter = self.steered.signal, self.steered.clock.counter
+        second = (NANOS << counter.shift) // counter.mult
+        reading = (self.steered.clock.last + self.random.choice([second] * 20 + [0, 12 * second])) % 2**counter.bits
+        if self.random.randrange(30) == 0:
+            self.drift = self.random.randrange(-600_000, 600_000)
+        self.raw += self.random.choice([NANOS] * 40 + [0, 9 * NANOS]) + self.drift
+        nsec = self.random.choice([self.random.randrange(500)] * 9 + [self.random.randrange(NANOS)])
+        had, calcnt = self.steered.ntp.status & STA_PPSSIGNAL, signal.calcnt
+        self.calls.process_pulse(nsec, u64(self.raw), self.at(reading))
+        self.forward_to(reading)
+        self.lost += bool(had and not self.steered.ntp.status & STA_PPSSIGNAL)
+        self.steered.pulse(reading, nsec, self.raw)
+        self.taken += signal.calcnt - calcnt
 
 
 def main():
@@ -225,16 +279,19 @@ def main():
     dist = pathlib.Path(sys.argv[1]).resolve()
     count, seed = (int(it) for it in (*sys.argv[2:], *("20000", "1")[len(sys.argv) - 2:]))
     with tempfile.TemporaryDirectory() as name:
-        unmodified, port, control = compile_all(pathlib.Path(name), dist)
+        unmodified, port, control, with_pulses = compile_all(pathlib.Path(name), dist)
         wrong = Wrong(seed, unmodified, port)
         wrong.compare(max(1000, count // 10))
         timeline = Timeline(seed, port)
         for _ in range(count):
             timeline.step()
+        pulsed = PulseTimeline(seed, with_pulses)
+        for _ in range(count):
+            pulsed.step()
         compare_tick_adj(unmodified, port)
         limits = pass_limit(unmodified) >= 0, pass_limit(port)
         backs, off = (ticks_back(port), ticks_back(control)), swing(port)
-        warned = ctypes.c_int.in_dll(port, "kernel_warnings").value
+        warned = sum(ctypes.c_int.in_dll(it, "kernel_warnings").value for it in (port, with_pulses))
     if limits != (True, EINVAL):
         sys.exit(f"process: at the limit, the answers are {limits}")
     if backs[0] or not backs[1]:
@@ -247,6 +304,8 @@ def main():
     print(f"process: {wrong.refused} wrong calls have the errno of the unmodified kernel, and "
           f"{wrong.changes} audit records are equal")
     print(f"process: {kinds}: all clocks are those of the definitions")
+    print(f"process: {pulsed.kinds['pulse']} pulses, {pulsed.taken} frequencies of intervals and "
+          f"{pulsed.lost} lost signals are those of the definitions")
     print(f"process: MONOTONIC goes back at no tick, and at {backs[1]} of the control")
     return 0
 

@@ -58,7 +58,7 @@ static enum tkc_code tk_switch(u64 now, struct clocksource *to)
 	if (!code)
 		code = tk_change_counter(now, &counter, first);
 	if (!code)
-		code = tkc_ntp_apply(&tk_state, first, TKC_CMD_STEP, 0, 0);
+		code = tk_clear_pps(tkc_ntp_apply(&tk_state, first, TKC_CMD_STEP, 0, 0));
 	return tk_check(code);
 }
 

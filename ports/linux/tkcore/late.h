@@ -35,9 +35,12 @@ static enum tkc_code tk_advance(u64 now)
 static enum tkc_code tk_forward(u64 now)
 {
 	enum tkc_code code = TKC_OK;
+	s64 before = tk_seconds();
 
 	/* (the control: seconds begin at their own readings, and MONOTONIC falls) */
 	if (!IS_ENABLED(TKC_CONTROL))
 		code = tk_check(tk_advance(now));
-	return code ?: tk_update(now);
+	code = code ?: tk_update(now);
+	tk_count_seconds(before);
+	return code;
 }

@@ -5,10 +5,6 @@
  */
 #include "ntp_status.h"
 
-#ifdef CONFIG_NTP_PPS
-#error "the library has no pulse per second: turn CONFIG_NTP_PPS off"
-#endif
-
 static void ntp_init_cmos_sync(void);
 
 /* The length of a tick in ns. In the unmodified kernel it follows the frequency. */

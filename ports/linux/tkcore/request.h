@@ -63,7 +63,8 @@ static void tk_take(struct audit_ntp_data *audit, bool is_old, u32 modes)
 static enum tkc_code tk_answer(struct __kernel_timex *txc, int *state, u64 now,
 			       struct audit_ntp_data *audit)
 {
-	u32 modes = txc->modes;
+	struct tkc_timex request = *(struct tkc_timex *)txc;
+	u32 modes = txc->modes, status = tkc_ntp_status(&tk_state);
 	bool is_audited = modes && !audit_dummy_context();
 	enum tkc_code code;
 
@@ -74,8 +75,10 @@ static enum tkc_code tk_answer(struct __kernel_timex *txc, int *state, u64 now,
 	code = tkc_adjtimex((struct tkc_timex *)txc, state, &tk_state, now);
 	if (is_audited && !code)
 		tk_take(audit, false, modes);
-	if (!code)
+	if (!code) {
 		txc->freq -= tk_tick_adj;
+		tk_answer_pps(&request, status, txc, state);
+	}
 	return code;
 }
 

@@ -26,7 +26,7 @@ void timekeeping_inject_sleeptime64(const struct timespec64 *delta)
 		} else {
 			tk_debug_account_sleep_time(delta);
 		}
-		tk_check(tkc_ntp_apply(&tk_state, now, TKC_CMD_STEP, 0, 0));
+		tk_clear_pps(tk_check(tkc_ntp_apply(&tk_state, now, TKC_CMD_STEP, 0, 0)));
 	}
 	tk_end(flags, TK_CLOCK_WAS_SET);
 	clock_was_set(CLOCK_SET_WALL | CLOCK_SET_BOOT);

@@ -8,6 +8,7 @@
 #include "ntp_status.h"
 #include "line.h"
 #include "asked.h"
+#include "pps.h"
 #include "late.h"
 
 /*
@@ -92,7 +93,7 @@ int do_settimeofday64(const struct timespec64 *ts)
 		return -EINVAL;
 	now = tk_begin(&flags);
 	before = tk->offs_real;
-	code = tk_command(now, TKC_CMD_SET_TIME, ts->tv_sec, ts->tv_nsec);
+	code = tk_clear_pps(tk_command(now, TKC_CMD_SET_TIME, ts->tv_sec, ts->tv_nsec));
 	tk_end(flags, TK_CLOCK_WAS_SET);
 	clock_was_set(CLOCK_SET_WALL);
 	if (!code) {
@@ -113,7 +114,7 @@ static int timekeeping_inject_offset(const struct timespec64 *ts)
 	if (ts->tv_nsec < 0 || ts->tv_nsec >= NSEC_PER_SEC)
 		return -EINVAL;
 	now = tk_begin(&flags);
-	code = tk_command(now, TKC_CMD_STEP, ts->tv_sec, ts->tv_nsec);
+	code = tk_clear_pps(tk_command(now, TKC_CMD_STEP, ts->tv_sec, ts->tv_nsec));
 	tk_end(flags, TK_CLOCK_WAS_SET);
 	clock_was_set(CLOCK_SET_WALL);
 	return tk_errno(code);
@@ -168,11 +169,13 @@ void __init timekeeping_init(void)
 	    tkc_ntp_open_at(&tk_state, &counter, now, wall.tv_sec, wall.tv_nsec, boot.tv_sec,
 			    boot.tv_nsec, HZ))
 		panic("timekeeping: the clocks don't open\n");
+	tk_open_pps();
 	tk_open_frequency(now);
 	tk_end(flags, TK_CLOCK_WAS_SET);
 }
 
 #include "sleep.h"
+#include "hardpps.h"
 
 /* Whether REALTIME may have reached its next second. Below 2^31 cycles, the sum is below 2^64. */
 static bool tk_is_second_due(const struct tk_read_base *tkr, u64 now)

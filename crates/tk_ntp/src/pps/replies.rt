@@ -1,5 +1,6 @@
 //! Fills the part of a reply that shows a signal.
-ghost use Rattle.std.specs.Prelude.{◌≡◌};
+ghost use Rattle.std.specs.Prelude.{◌≡◌, ◌≤◌};
+ghost use Rattle.tk_ntp.specs.Pps.{greatest_shift};
 ghost use Rattle.tk_ntp.specs.PpsReply.{lacks_signal, has_faulty_time, has_faulty_frequency, is_signal_error, pps_state, reply_jitter, pps_reply};
 
 use super::Pps;
@@ -11,7 +12,8 @@ use crate::reply::{Reply, TimeState};
 impl Pps {
     /// Returns the part of a reply that shows the signal. Call `ask` with the request first.
     pub fn reply(&self, reply: &Reply) -> PpsReply
-        ensures { result ≡ pps_reply reply.now self.now }
+        ensures value { result ≡ pps_reply reply.now self.now }
+        ensures short { result.shift ≤ greatest_shift }
     {
         PpsReply {
             state: state(reply),
