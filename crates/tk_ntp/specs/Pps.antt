@@ -1,8 +1,8 @@
 -- A signal of a pulse per second: what its pulses left (pps_.. in kernel/time/ntp.c, with
 -- CONFIG_NTP_PPS).
-use Rattle.std.specs.Prelude.{◌≡◌, ℕ, zero, suc, ◌+◌, ◌-◌, ◌^◌, ◌<◌, ◌≤◌, min, Bool, false, not, ◌&&◌, ◌||◌, nat_eq, ℤ, pos, unsigned_abs, bit_and, if◌then◌else◌}
+use Rattle.std.specs.Prelude.{◌≡◌, ℕ, zero, suc, ◌-◌, ◌^◌, ◌<◌, ◌≤◌, Bool, false, not, ◌&&◌, ◌||◌, nat_eq, ℤ, pos, unsigned_abs, bit_and, if◌then◌else◌}
 use Rattle.tk_ntp.specs.declared.timex.Timex.{Timex}
-use Rattle.tk_ntp.specs.Bits.{has, without, sta_pll, sta_ppssignal, sta_ppsjitter, sta_ppswander, sta_ppserror, adj_frequency, adj_status, adj_setoffset, adj_adjtime}
+use Rattle.tk_ntp.specs.Bits.{has, without, sta_pll, sta_ppssignal, adj_frequency, adj_status, adj_setoffset, adj_adjtime}
 use Rattle.tk_ntp.specs.Length.{max_frequency}
 use Rattle.tk_ntp.specs.Request.{gain_of}
 use Rattle.tk_ntp.specs.Ntp.{Ntp}
@@ -102,12 +102,12 @@ pps_second pps =
     if is_lost pps then pps_cleared pps else record pps { valid = pps.valid - 1 }
 
 -- some seconds of REALTIME begin, one after the other
-pub pps_seconds : ℕ → Pps → Pps
+unfoldable pub pps_seconds : ℕ → Pps → Pps
 pps_seconds zero pps = pps
 pps_seconds (suc count) pps = pps_seconds count (pps_second pps)
 
 -- whether the signal counts as lost at one of them
-pub is_lost_in : ℕ → Pps → Bool
+unfoldable pub is_lost_in : ℕ → Pps → Bool
 is_lost_in zero pps = false
 is_lost_in (suc count) pps = is_lost pps || is_lost_in count (pps_second pps)
 
