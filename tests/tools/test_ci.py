@@ -233,7 +233,8 @@ class Ci(Case):
 
     def test_kernels_are_built_beside_rt_ci_and_guests_run_beside_check_run(self):
         built, began = self.room / "built", self.room / "began"
-        self.stub("check_linux", f"""[ "$(nice)" = 19 ] || exit 3
+        idle = min(19, os.nice(0) + 19)  # (whoever runs the tests may itself be nice)
+        self.stub("check_linux", f"""[ "$(nice)" = {idle} ] || exit 3
             [ "$1" != --build ] || {{ echo built >>{built}; exit 1; }}
             [ $# = 0 ] && touch {began}
             {until(f"[ -e {self.room}/ran ]")}""")
