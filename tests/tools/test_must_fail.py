@@ -56,6 +56,18 @@ class MustFail(Case):
         self.assertEqual(1, len(self.calls()))
         self.assertIn("--only=Clock::first --only=Clock::second", self.calls()[0])
 
+    def test_a_conversion_is_named_by_both_of_its_types(self):
+        self.write("src/lib.rt", "".join(
+            f"impl From<{it}> for Fault {{\n    fn from(_: {it}) -> Fault {{\n        {number}\n"
+            "    }\n}\n" for number, it in enumerate(["AllocError", "io::Error", "&T"])))
+        self.write("must-fail-together/first.edit", FIRST.replace(" 1", " 0"))
+        self.write("must-fail-together/second.edit", FIRST)
+        self.tried('echo "fn low::fault::FaultFromAllocError::from: not proved"\n'
+                   'echo "fn low::fault::FaultFromIoError::from: not proved"\nexit 1')
+        only = [word for it in self.calls() for word in it.split() if word.startswith("--only=")]
+        self.assertEqual(["--only=FaultFromAllocError::from", "--only=FaultFromIoError::from"],
+                         sorted(only))
+
     def test_an_edit_that_is_not_named_is_tried_in_a_check_of_the_whole_crate(self):
         self.write("must-fail-together/first.edit", FIRST)
         found = self.tried('case "$*" in *--only*) exit 0 ;; esac\n'

@@ -5,6 +5,7 @@ import re
 
 FUNCTION = re.compile(r'( *)(?:pub(?:\([^)]*\))? )?(?:const |unsafe |extern "C" )*fn (\w+)')
 IMPL = re.compile(r"(?:unsafe )?impl\b(.*)")
+PATH = re.compile(r"\w+(?:::\w+)*")
 # a call, or a function that is passed by its path
 CALL = re.compile(r"\b(\w+)(?=\(|::<)|(?<=::)(\w+)")
 # what is in front of the brace of a clause
@@ -33,18 +34,27 @@ def without_parameters(text):
     return text
 
 
-def type_of(block):
-    """Returns the name of an impl's type, followed by its trait's name if it has a trait.
+def words_of(path):
+    """Returns the words of a type's path as a check prints them: `IoError` for `io::Error`."""
+    return "".join(it[0].upper() + it[1:] for it in path.split("::"))
 
-    Returns "" if the trait has parameters or the type is one, since a check prints more then.
+
+def type_of(block):
+    """Returns the name of an impl's type, followed by that of its trait, and of the trait's type.
+
+    Returns "" if the trait is of more than a type, or one of the types is a parameter of the impl,
+    since a check prints more then.
     """
     words = re.findall(r"[\w:]+", without_parameters(block).split(" where ")[0])
     names = [it.rpartition("::")[2] for it in words]
     if "for" not in names:
         return names[0] if names else ""
     of, for_type = names[names.index("for") - 1], names[names.index("for") + 1]
-    is_open = re.search(rf"\b{of}<", block) or re.match(rf"<[^>]*\b{for_type}\b", block)
-    return "" if is_open else for_type + of
+    given = re.search(rf"\b{of}<(.*)> for ", block)
+    types = [for_type, given[1]] if given else [for_type]
+    if any(not PATH.fullmatch(it) or re.match(rf"<[^>]*\b{it}\b", block) for it in types):
+        return ""
+    return for_type + of + "".join(map(words_of, types[1:]))
 
 
 def end_of(lines, first):
