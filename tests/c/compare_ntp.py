@@ -98,7 +98,11 @@ class Session:
         return "signal"
 
     def pps(self, reading, nsec, raw):
-        self.steered.pulse(reading, nsec, raw)
+        """The seconds begin even before a pulse whose times are out of their ranges."""
+        try:
+            self.begin(reading)
+        finally:
+            self.steered.pulse(reading, nsec, raw)
         return "ok"
 
     def begin(self, reading):

@@ -138,6 +138,12 @@ static const struct ntp_row intervals[] = {
 	  "adj,error,1700000014.000000,0,-6553665,16000000,16000000,1346,2,10000,0"
 	  ",pps,error,-6553665,0,2,1638416,1,2,1,1"
 	  ",signal,10,2,3,1638416,-20,-2,-429501024567296,14000400004,2,1,1,1" },
+	{ "front",
+	  "front,1"
+	  ",signal,10,2,3,1638416,-20,-2,-429501024567296,14000400004,2,1,1,1" },
+	{ "get,1,15000000000",
+	  "at,14.999899983"
+	  ",signal,10,2,3,1638416,-20,-2,-429501024567296,14000400004,2,1,1,1" },
 	{ "pps,18000000000,20,18000799996",
 	  "ok,signal,10,2,2,1228861,-20,-1,-429488139665408,18000799996,3,1,1,1" },
 	{ "pps,22000000000,20,22001199992",
@@ -170,6 +176,59 @@ static const struct ntp_row intervals[] = {
 	  ",signal,10,3,0,13230236,-20,-1,0,66007999984,11,1,3,1" },
 };
 
+/* Corrections, which end an adjtime, unless they are dropped. The next second corrects
+ * all of it. */
+static const struct ntp_row corrected[] = {
+	{ "openhz,64,1000000000,600,0,1700000000,0,250",
+	  "open" },
+	{ "signal",
+	  "signal,signal,0,2,0,0,0,0,0,0,0,0,0,0" },
+	{ "adjtimex,0,0x2010,0,0,0,0,0x5,0,0,0,0",
+	  "adj,ok,1700000000.000000000,0,0,16000000,16000000,8197,2,10000,0"
+	  ",pps,error,0,0,2,0,0,0,0,0,signal,0,2,0,0,0,0,0,0,0,0,0,0" },
+	{ "pps,1000000000,100,1000000000",
+	  "ok,signal,10,2,0,0,0,0,0,1000000000,0,0,0,0" },
+	{ "adjtimex,1000000000,0x8001,5000,0,0,0,0,0,0,0,0",
+	  "adj,error,1700000001.000000000,0,0,16000000,16000000,8517,2,10000,0"
+	  ",pps,error,0,0,2,0,0,0,0,0,signal,10,2,0,0,0,0,0,1000000000,0,0,0,0" },
+	{ "pps,2000000000,100,2000000000",
+	  "ok,signal,10,2,25,0,-100,0,0,1000000000,0,1,0,0" },
+	{ "adjtimex,2000000000,0xa001,0,0,0,0,0,0,0,0,0",
+	  "adj,error,1700000002.000000000,4500,0,16000000,16000000,9029,2,10000,0"
+	  ",pps,error,0,25,2,0,1,0,0,0"
+	  ",signal,10,2,25,0,-100,0,0,1000000000,0,1,0,0" },
+	{ "pps,3000000000,120120,3000000000",
+	  "ok,signal,10,2,30023,0,-120120,0,0,1000000000,0,2,0,0" },
+	{ "adjtimex,3000000000,0xa001,0,0,0,0,0,0,0,0,0",
+	  "adj,error,1700000003.000499963,4000,0,16000000,16000000,9029,2,10000,0"
+	  ",pps,error,0,30023,2,0,2,0,0,0"
+	  ",signal,10,2,30023,0,-120120,0,0,1000000000,0,2,0,0" },
+	{ "pps,3000000000,120000,3000000000",
+	  "ok,signal,10,2,22547,0,-120000,0,0,1000000000,0,2,0,0" },
+	{ "pps,4000000000,120100,4000000000",
+	  "ok,signal,10,2,16935,0,-120100,0,0,1000000000,0,2,0,0" },
+	{ "adjtimex,4000000000,0xa001,0,0,0,0,0,0,0,0,0",
+	  "adj,error,1700000004.000999307,0,0,16000000,16000000,8517,2,10000,0"
+	  ",pps,error,0,16935,2,0,2,0,0,0"
+	  ",signal,10,2,16935,0,-120100,0,0,1000000000,0,2,0,0" },
+	{ "adjtimex,4000000000,0x0,0,0,0,0,0,0,0,0,0",
+	  "adj,error,1700000004.000999307,-120099,0,16000000,16000000,8517,2,10000,0"
+	  ",pps,error,0,16935,2,0,2,0,0,0"
+	  ",signal,10,2,16935,0,-120100,0,0,1000000000,0,2,0,0" },
+	{ "front",
+	  "front,2,signal,10,2,16935,0,-120100,0,0,1000000000,0,2,0,0" },
+	{ "late,5000000000",
+	  "ok,signal,9,2,16935,0,-120100,0,0,1000000000,0,2,0,0" },
+	{ "adjtimex,5000000000,0x0,0,0,0,0,0,0,0,0,0",
+	  "adj,error,1700000005.000879264,0,0,16000000,16000000,8517,2,10000,0"
+	  ",pps,error,0,16935,2,0,2,0,0,0"
+	  ",signal,9,2,16935,0,-120100,0,0,1000000000,0,2,0,0" },
+	{ "get,1,5900000000",
+	  "at,5.900771224,signal,9,2,16935,0,-120100,0,0,1000000000,0,2,0,0" },
+	{ "front",
+	  "front,2,signal,9,2,16935,0,-120100,0,0,1000000000,0,2,0,0" },
+};
+
 /* What requests and commands change in the state. */
 static const struct ntp_row asked[] = {
 	{ "openhz,64,1000000000,600,0,1700000000,0,250",
@@ -198,7 +257,7 @@ static const struct ntp_row asked[] = {
 	  "adj,ok,1700000009.000000,0,-65536,16000000,16000000,2,2,10000,0"
 	  ",pps,error,-65536,0,2,3072,1,2,0,0"
 	  ",signal,10,2,750,3072,-4000,0,-4294967296000,9000002000,2,1,0,0" },
-	{ "adjtimex,9000000000,0x8001,5000,65536,0,0,0,0,0,0,0",
+	{ "adjtimex,9000000000,0x8003,5000,65536,0,0,0,0,0,0,0",
 	  "adj,ok,1700000009.000000,0,-65536,16000000,16000000,2,2,10000,0"
 	  ",pps,error,-65536,0,2,3072,1,2,0,0"
 	  ",signal,10,2,750,3072,-4000,0,-4294967296000,9000002000,2,1,0,0" },
@@ -379,6 +438,28 @@ static void try_full(void)
 	check(tkc_ntp_status(&ntp) & TKC_STA_PPSSIGNAL && memcmp(&pps, &signal, sizeof(pps)));
 }
 
+/* A pulse lets the seconds up to its reading begin, as tkc_ntp_advance does, and takes its
+ * frequency and its correction then. */
+static void try_due(void)
+{
+	struct tkc_ntp ntp = opened_steered(1700000000, 0), advanced;
+	struct tkc_pps pps, other;
+
+	tkc_pps_open(&pps);
+	ask(&ntp, 0, TKC_ADJ_STATUS | TKC_ADJ_NANO | TKC_ADJ_OFFSET, TKC_STA_PLL);
+	ask(&ntp, 0, TKC_ADJ_STATUS, TKC_STA_PLL | TKC_STA_PPSFREQ | TKC_STA_PPSTIME);
+	check(!tkc_ntp_pulse(&ntp, &pps, 1, 5, SECOND));
+	advanced = ntp;
+	other = pps;
+	check(!tkc_ntp_pulse(&ntp, &pps, 3500000000, 5, 5 * (uint64_t)SECOND + 400000));
+	check(tkc_ntp_seconds(&ntp) == 4);
+	check(tkc_ntp_frequency(&ntp) == -6553600);
+	check(!tkc_ntp_advance(&advanced, 3500000000));
+	check(tkc_ntp_seconds(&advanced) == 4 && tkc_ntp_frequency(&advanced) == 0);
+	check(!tkc_ntp_pulse(&advanced, &other, 3500000000, 5, 5 * (uint64_t)SECOND + 400000));
+	check(!memcmp(&ntp, &advanced, sizeof(ntp)) && !memcmp(&pps, &other, sizeof(pps)));
+}
+
 /* Counts seconds of a signal with one pulse: as many calls count one each. */
 static void try_counts(void)
 {
@@ -408,6 +489,7 @@ void try_pulses(void)
 	try_each(pulses, try_ntp_row);
 	try_each(lost, try_ntp_row);
 	try_each(intervals, try_ntp_row);
+	try_each(corrected, try_ntp_row);
 	try_each(asked, try_ntp_row);
 	try_each(limits, try_ntp_row);
 	try_each(pulses_refused, try_ntp_row);
@@ -416,5 +498,6 @@ void try_pulses(void)
 	try_numbers(TKC_STA_DEL, 1483228796);
 	try_rounded_number();
 	try_full();
+	try_due();
 	try_counts();
 }

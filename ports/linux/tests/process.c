@@ -146,6 +146,12 @@ void process_pulse(u32 nsec, u64 raw, u64 reading)
 	now = reading;
 	hardpps(&phase, &raw_time);
 }
+
+/* Stores the numbers that the state of the signal is kept in. */
+void process_signal(u64 out[10])
+{
+	memcpy(out, &tk_pps, sizeof(tk_pps));
+}
 #endif
 
 void process_suspend(u64 reading)

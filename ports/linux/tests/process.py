@@ -40,7 +40,7 @@ import kernel  # noqa: E402
 from kernel import Timex  # noqa: E402
 from late import Orders  # noqa: E402
 from model import NANOS, Counter  # noqa: E402
-from ntp import STA_PLL, STA_PPSFREQ, STA_PPSSIGNAL, STA_PPSTIME, STATUS  # noqa: E402
+from ntp import FREQUENCY, STA_PLL, STA_PPSFREQ, STA_PPSSIGNAL, STA_PPSTIME, STATUS  # noqa: E402
 from ntp import Timex as Request  # noqa: E402
 from pps import Pps  # noqa: E402
 from single import compare_tick_adj, pass_limit, swing, ticks_back  # noqa: E402
@@ -252,7 +252,7 @@ class PulseTimeline(Timeline):
         order, follow = super().ask()
         words = order.split()
         if self.random.randrange(2):
-            words[2] = str(int(words[2]) | STATUS)
+            words[2] = str(int(words[2]) | STATUS | self.random.choice([0, FREQUENCY]))
             bits = [0, STA_PPSFREQ, STA_PPSTIME, STA_PPSFREQ | STA_PPSTIME]
             words[5] = str(self.random.choice(bits) | self.random.choice([0, STA_PLL]))
         return " ".join(words), follow
@@ -271,6 +271,15 @@ class PulseTimeline(Timeline):
         self.lost += bool(had and not self.steered.ntp.status & STA_PPSSIGNAL)
         self.steered.pulse(reading, nsec, self.raw)
         self.taken += signal.calcnt - calcnt
+
+    def compare(self, reading):
+        """Compares each number of the signal's state too."""
+        super().compare(reading)
+        words, it = (ctypes.c_uint64 * 10)(), self.steered.signal
+        self.calls.process_signal(words)
+        numbers = [it.valid + (it.shift << 32), it.jitter + (it.stabil << 32), it.correction, it.balance,
+                   it.frequency, it.start, it.calcnt, it.jitcnt, it.stbcnt, it.errcnt]
+        self.expect(list(words), [number % 2**64 for number in numbers], "the signal's state")
 
 
 def main():
