@@ -207,26 +207,27 @@ static void try_late_reading(const struct late_reading *row)
 
 /* A front, a reading of the clocks of `steered` with this front, and what calls return
  * there. Their next second begins at the reading 1,000,000,002. A second and an update
- * need room for 3 commands, a request for 6, below 2^63. */
+ * need room for 3 commands, a request for 6, below 2^63: at the front 2^63 - 4, there is
+ * room for 3. */
 struct full_front {
 	uint64_t front, reading;
 	uint32_t advance, update, request;
 };
 
 static const struct full_front full_fronts[] = {
-	{ INT64_MAX - 6, 9, TKC_OK, TKC_OK, TKC_OK },
-	{ INT64_MAX - 5, 9, TKC_OK, TKC_OK, TKC_FULL },
-	{ INT64_MAX - 3, 9, TKC_OK, TKC_OK, TKC_FULL },
-	{ INT64_MAX - 2, 9, TKC_OK, TKC_FULL, TKC_FULL },
+	{ 9223372036854775801, 9, TKC_OK, TKC_OK, TKC_OK },
+	{ 9223372036854775802, 9, TKC_OK, TKC_OK, TKC_FULL },
+	{ 9223372036854775804, 9, TKC_OK, TKC_OK, TKC_FULL },
+	{ 9223372036854775805, 9, TKC_OK, TKC_FULL, TKC_FULL },
 	{ INT64_MAX, 9, TKC_OK, TKC_FULL, TKC_FULL },
 	{ UINT64_MAX, 9, TKC_OK, TKC_FULL, TKC_FULL },
 	{ UINT64_MAX, 1000000001, TKC_OK, TKC_FULL, TKC_FULL },
-	{ INT64_MAX - 6, 1000000002, TKC_OK, TKC_OK, TKC_OK },
-	{ INT64_MAX - 3, 1000000002, TKC_OK, TKC_OK, TKC_FULL },
-	{ INT64_MAX - 2, 1000000002, TKC_FULL, TKC_FULL, TKC_FULL },
+	{ 9223372036854775801, 1000000002, TKC_OK, TKC_OK, TKC_OK },
+	{ 9223372036854775804, 1000000002, TKC_OK, TKC_OK, TKC_FULL },
+	{ 9223372036854775805, 1000000002, TKC_FULL, TKC_FULL, TKC_FULL },
 	{ UINT64_MAX, 1000000002, TKC_FULL, TKC_FULL, TKC_FULL },
 	{ INT64_MAX, 6, TKC_BEHIND, TKC_BEHIND, TKC_BEHIND },
-	{ UINT64_MAX, UINT64_C(1) << 32, TKC_INVALID, TKC_INVALID, TKC_INVALID },
+	{ UINT64_MAX, 4294967296, TKC_INVALID, TKC_INVALID, TKC_INVALID },
 };
 
 static uint64_t front_of(const struct tkc_ntp *ntp)

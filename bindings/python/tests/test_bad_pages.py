@@ -136,10 +136,10 @@ class Pages(unittest.TestCase):
         self.assertEqual(snapshot, opened().snapshot())
 
     def test_no_copy(self):
-        page = tkcore.Page.create(opened())
-        for call in (copy.copy, copy.deepcopy, pickle.dumps):
-            with self.assertRaises(TypeError):
-                call(page)
+        for shared in (tkcore.Page.create(opened()), tkcore.Latch.create(opened().snapshot())):
+            for call in (copy.copy, copy.deepcopy, pickle.dumps):
+                with self.assertRaises(TypeError):
+                    call(shared)
 
     def test_a_counter_that_raises(self):
         page = tkcore.Page.create(opened())

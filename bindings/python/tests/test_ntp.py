@@ -177,6 +177,29 @@ class Saved(unittest.TestCase):
                 self.assertEqual((raised.exception.value, raised.exception.range),
                                  (front, (0, most)))
 
+    def test_fronts_without_room(self):
+        """A call that finds no room for its own commands leaves the clocks with the seconds up to
+        its reading begun."""
+        for front, reading, second, update, request in rows_of("worked_saved_ntp.c", "full_fronts"):
+            before, begun = self.load({0: front}), self.load({0: front})
+            raises(self, second, lambda: begun.advance(reading))
+            if second != "OK":
+                self.assertEqual(begun.save(), before.save())
+            calls = [
+                (second, 0, lambda clock: clock.advance(reading)),
+                (second, 0, lambda clock: clock.advance_late(reading)),
+                (update, 1, lambda clock: clock.update(reading)),
+                (request, 1, lambda clock: clock.set_frequency(reading, 65_536_000)),
+                (request, 0, lambda clock: clock.adjtimex(reading, Timex())),
+            ]
+            for code, commands, call in calls:
+                clock = self.load({0: front})
+                raises(self, code, lambda: call(clock))
+                if code == "OK":
+                    self.assertEqual(clock.snapshot().front, front + commands)
+                else:
+                    self.assertEqual(clock.save(), (begun if code == "FULL" else before).save())
+
     def test_loaded_clocks_go_on(self):
         self.clock.adjtimex(10, Timex(Mode.OFFSET | Mode.STATUS, offset=1000, status=Status.PLL))
         loaded, pickled = SteeredClock.load(self.clock.save()), pickle.loads(pickle.dumps(self.clock))

@@ -15,9 +15,9 @@ use crate::{ClockWords, Refusal, Timespec, SAVED_WORDS, WORDS};
 mod ntp;
 
 pub(crate) use ntp::{
-    adjtimex, ntp_advance, ntp_advance_late, ntp_apply, ntp_change_counter, ntp_frequency, ntp_leap,
-    ntp_load, ntp_next_second, ntp_open, ntp_open_at, ntp_save, ntp_snapshot, ntp_status, ntp_tick,
-    NtpValue,
+    adjtimex, ntp_advance, ntp_advance_late, ntp_apply, ntp_change_counter, ntp_frequency,
+    ntp_leap, ntp_load, ntp_next_second, ntp_open, ntp_open_at, ntp_save, ntp_snapshot, ntp_status,
+    ntp_tick, NtpValue,
 };
 
 /// The version of the header that these declarations follow, as `TKC_VERSION`.

@@ -103,3 +103,37 @@ fn first_readings_above_the_mask() {
     assert_eq!(clock.change_counter(9, &narrow, 255), Err(Refusal::Full));
     assert_eq!((clock.save(), *clock.counter()), (before, nanosecond_counter()));
 }
+
+/// A call that finds no room for its own commands leaves the clocks with the seconds up to its
+/// reading begun.
+#[test]
+fn fronts_without_room() {
+    type Call = fn(&mut SteeredClock, u64) -> Option<Refusal>;
+    let ask: Call = |clock, reading| {
+        clock.adjtimex(reading, &Timex::default()).err().map(|error| error.refusal)
+    };
+    for row in table("worked_saved_ntp.c", "full_fronts") {
+        let row = row.list();
+        let (front, reading): (u64, u64) = (row[0].number(), row[1].number());
+        let [second, update, request] = [2, 3, 4].map(|place: usize| row[place].refusal());
+        let (before, mut begun) = (load(&[(0, front)]), load(&[(0, front)]));
+        assert_eq!(begun.advance(reading).err(), second, "{row:?}");
+        assert!(second.is_none() || begun.save() == before.save(), "{row:?}");
+        let calls: [(Option<Refusal>, u64, Call); 5] = [
+            (second, 0, |clock, reading| clock.advance(reading).err()),
+            (second, 0, |clock, reading| clock.advance_late(reading).err()),
+            (update, 1, |clock, reading| clock.apply(reading, Command::Update).err()),
+            (request, 1, |clock, reading| clock.apply(reading, Command::Freq(65_536_000)).err()),
+            (request, 0, ask),
+        ];
+        for (wanted, commands, call) in calls {
+            let mut clock = before.clone();
+            assert_eq!(call(&mut clock, reading), wanted, "{row:?}");
+            match wanted {
+                None => assert_eq!(clock.snapshot().front(), front + commands, "{row:?}"),
+                Some(Refusal::Full) => assert_eq!(clock.save(), begun.save(), "{row:?}"),
+                Some(_) => assert_eq!(clock.save(), before.save(), "{row:?}"),
+            }
+        }
+    }
+}

@@ -101,8 +101,8 @@ impl<L: Named, C: Counter> SharedKeeper<L, C> {
     }
 
     /// Applies a caller's command at the counter's reading, adds it to the journal with the
-    /// caller's number, and publishes it on the page and the latch. Returns the number of the
-    /// entry.
+    /// caller's number, and publishes it on the page and then on the latch. Returns the number of
+    /// the entry.
     ///
     /// It does all this under the lock. It waits for the lock, and then it may wait for readers of
     /// the page. It allocates if no capacity is left, and reads the counter once. The page can
@@ -112,7 +112,7 @@ impl<L: Named, C: Counter> SharedKeeper<L, C> {
     ///
     /// Returns the `Refusal` of `Timekeeper::apply`: the first test that fails, in the order of
     /// `Refusal`. A refused command changes nothing, except that the caller may have seen more
-    /// entries and the counter was read.
+    /// entries and knows how many of them are folded, and that the counter was read.
     pub fn command<R: Wait>(
         &self,
         rt: &R,
