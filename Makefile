@@ -1,5 +1,6 @@
 # Builds the library for C, report (examples/c/report.c) and tkcore from the assembler text in
-# release/, and on x86-64 tkrun. It needs a C compiler, binutils and bash, and no Rattle.
+# release/, and on x86-64 with a static glibc 2.32 or later tkrun. It needs a C compiler, binutils and
+# bash, and no Rattle.
 #
 #     make                  makes dist/
 #     make check            tests what is in dist/, with the programs that are installed
@@ -29,7 +30,7 @@ dist/bin/report: dist/lib/libtkcore.a $(REPORT)
 	$(CC) -O2 -Idist/include -Irun $(REPORT) dist/lib/libtkcore.a -o $@
 
 dist/bin/tkrun: dist/lib/libtkcore.a $(wildcard run/*/*)
-	tools/build_run
+	tools/build_run --optional
 
 # as many parts at once as there are processors, unless make was called with -j; what a part prints
 # stays together

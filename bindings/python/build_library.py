@@ -71,6 +71,12 @@ def library(machine):
     return found
 
 
+def require_assembler(compiler):
+    words = [*compiler, "-x", "assembler", "-c", "-", "-o", os.devnull]
+    if subprocess.run(words, input=b"", capture_output=True, check=False).returncode:
+        raise Missing(f"{compiler[0]} finds no assembler: install binutils")
+
+
 def build(target):
     """Makes the shared object, and returns the name of the processor that it is for."""
     compiler = shlex.split(os.environ.get("CC", "cc"))
@@ -80,15 +86,14 @@ def build(target):
     except (OSError, subprocess.CalledProcessError):
         raise Missing(f"there is no C compiler {compiler[0]}") from None
     include, code = library(machine)
+    require_assembler(compiler)
     Path(target).parent.mkdir(parents=True, exist_ok=True)
     command = [*compiler, "-std=c11", "-O2", "-fPIC", "-fno-stack-protector", "-shared",
                "-nostdlib", f"-I{include}", str(HERE / "src" / "tkcore" / "_page.c"),
                "-Wl,-z,defs", "-Wl,--whole-archive", str(code), "-Wl,--no-whole-archive",
                "-o", str(target)]
-    try:
-        subprocess.run(command, check=True)
-    except (OSError, subprocess.CalledProcessError) as error:
-        raise Missing(f"the shared object wasn't made: {error}") from None
+    if subprocess.run(command, check=False).returncode:
+        raise Missing(f"{compiler[0]} doesn't make the shared object of {code}")
     return machine
 
 

@@ -57,6 +57,12 @@ check_crate() {
     awk '/^(pub )?mod / && before != "#[forbid(unsafe_code)]" { print } { before = $0 }' \
         "$code/src/lib.rs" | diff - <(echo 'mod sys;') ||
         fail "another module than sys may contain unsafe code"
+    rustc --edition 2021 "$code/build.rs" -o "$work/build" || fail "build.rs doesn't compile"
+    ! env -u TKCORE_DIR -u TKCORE_PKG_CONFIG CARGO_CFG_TARGET_ARCH=riscv64 \
+        CARGO_MANIFEST_DIR="$code" "$work/build" >"$work/chosen" 2>"$work/refused" ||
+        fail "build.rs has a text for another processor"
+    diff "$work/refused" - <<<"Error: \"TKCORE_DIR isn't set, and there is no text for riscv64\"" ||
+        fail "build.rs says something else of another processor"
     rustc --edition 2021 -O -C panic=abort --crate-type staticlib -o "$work/no_std.a" \
         --extern "tkcore=$work/target/release/libtkcore.rlib" "$top/bindings/tests/no_std.rs" ||
         fail "the Rust crate needs std"

@@ -2,12 +2,12 @@
 /*
  * A program without a C library and without start files, as in a kernel. It
  * links the archive alone and makes every call at least once. It is for Linux
- * on x86-64. Its status is 0 if each call returns what it should, otherwise the
- * line of the first check that fails.
+ * on x86-64 and AArch64. Its status is 0 if each call returns what it should,
+ * otherwise the line of the first check that fails.
  *
- * STACK_OFF is the number of bytes by which the stack is off its alignment to
- * 16 bytes. It is 8 in a function that is compiled as the kernel compiles its
- * own, with -mpreferred-stack-boundary=3.
+ * STACK_OFF is the number of bytes by which the stack of x86-64 is off its
+ * alignment to 16 bytes. It is 8 in a function that is compiled as the kernel
+ * compiles its own, with -mpreferred-stack-boundary=3.
  */
 #include <tkcore.h>
 
@@ -15,11 +15,16 @@
 #define STACK_OFF 0
 #endif
 
-enum { EXIT = 60 }; /* the number of exit(2) */
-
+/* Calls exit(2) by its number. */
 static void leave(long status)
 {
-	__asm__ volatile("syscall" : : "a"(EXIT), "D"(status));
+#ifdef __aarch64__
+	register long given __asm__("x0") = status, number __asm__("x8") = 93;
+
+	__asm__ volatile("svc 0" : : "r"(given), "r"(number));
+#else
+	__asm__ volatile("syscall" : : "a"(60), "D"(status));
+#endif
 	__builtin_unreachable();
 }
 
@@ -144,8 +149,14 @@ void start(void)
 #define TEXT(number) TEXT_OF(number)
 
 /* The system starts the program with an aligned stack. */
+#ifdef __aarch64__
+__asm__(".globl _start\n"
+	"_start:\n"
+	"	bl start\n");
+#else
 __asm__(".globl _start\n"
 	"_start:\n"
 	"	and $-16, %rsp\n"
 	"	sub $" TEXT(STACK_OFF) ", %rsp\n"
 	"	call start\n");
+#endif

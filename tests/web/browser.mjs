@@ -25,6 +25,7 @@ class Browser {
         this.number = 0;
         this.rest = '';
         this.errors = [];
+        this.requests = []; // the addresses that the page has loaded
         this.process.stdio[4].on('data', data => this.read(data.toString()));
     }
 
@@ -33,6 +34,8 @@ class Browser {
         this.rest = messages.pop();
         for (const { id, method, params, result, error } of messages.map(it => JSON.parse(it))) {
             this.waiting.get(id)?.(error ? { error } : result);
+            if (method === 'Network.requestWillBeSent')
+                this.requests.push(params.request.url);
             if (method === 'Runtime.exceptionThrown')
                 this.errors.push(params.exceptionDetails.exception?.description
                     ?? params.exceptionDetails.text);
@@ -53,6 +56,7 @@ class Browser {
         const { sessionId } = await this.send('Target.attachToTarget', { targetId, flatten: true });
         this.session = sessionId;
         await this.send('Runtime.enable');
+        await this.send('Network.enable');
         await this.send('Emulation.setDeviceMetricsOverride',
             { width, height, deviceScaleFactor: 1, mobile: false });
         await this.send('Page.navigate', { url });
@@ -195,6 +199,66 @@ async function checkReaders(browser) {
     await browser.until(`!document.getElementById('reads').textContent.includes('readers:')`);
 }
 
+/** The relative luminance of a colour as WCAG 2 defines it, from 0 to 1. */
+function luminance(color) {
+    const [r, g, b] = color.match(/^rgb\((\d+), (\d+), (\d+)\)$/).slice(1).map(it => it / 255)
+        .map(it => it <= 0.03928 ? it / 12.92 : ((it + 0.055) / 1.055) ** 2.4);
+    return 0.2126 * r + 0.7152 * g + 0.0722 * b;
+}
+
+/** The contrast ratio of two colours as WCAG 2 defines it, from 1 to 21. It asks for 4.5 in texts. */
+function contrast(one, other) {
+    const [dark, light] = [luminance(one), luminance(other)].sort((a, b) => a - b);
+    return (light + 0.05) / (dark + 0.05);
+}
+
+function colorOf(browser, selector, property = 'color') {
+    return browser.value(`getComputedStyle(document.querySelector(${JSON.stringify(selector)}))[${
+        JSON.stringify(property)}]`);
+}
+
+/** Refused commands, reads and reads that differ have colours of their own, which can be read. */
+async function checkColors(browser, theme) {
+    const card = await colorOf(browser, 'section', 'backgroundColor');
+    require(luminance(card) > 0.5 === (theme === 'light'), `${theme}: the cards are ${card}`);
+    await runScript(browser, 'open,32,16777216,24,0,1700000000,0\nupdate,1000000000\nupdate,5\n'
+        + 'get,1000000000,monotonic\nget,1000000000,monotonic,7\n');
+    const rows = ['#rows div:nth-child(2)', '#rows .no', '#rows .at', '#rows .differs'], texts = [];
+    for (const row of [...rows, '#plot text.refused'])
+        texts.push(await colorOf(browser, row, row.startsWith('#plot') ? 'fill' : 'color'));
+    require(new Set(texts.slice(0, 4)).size === 4, `${theme}: rows in ${texts}`);
+    const marks = [await colorOf(browser, '#plot line.mark', 'stroke'),
+        await colorOf(browser, '#plot line.refused', 'stroke'),
+        await colorOf(browser, '#plot .read', 'fill'), await colorOf(browser, '#plot .different', 'fill')];
+    require(new Set(marks).size === 3 && marks[1] === marks[3], `${theme}: marks in ${marks}`);
+    require(await browser.value(`document.querySelectorAll('#plot line.refused').length`) === 1,
+        `${theme}: not one refused command is drawn`);
+    await runScript(browser, 'open,1\n');
+    texts.push(await colorOf(browser, '#rows .fault'), await colorOf(browser, '#verdict .bad'));
+    for (const color of texts)
+        require(contrast(color, card) >= 4.5, `${theme}: ${color} on ${card} can't be read`);
+    require(texts[5] !== texts[0], `${theme}: a fault has the colour of other rows`);
+}
+
+/** The page is light or dark as the system is, and as its button says then. */
+async function checkThemes(browser) {
+    const isDark = `document.documentElement.classList.contains('dark')`;
+    for (const theme of ['dark', 'light']) {
+        await browser.send('Emulation.setEmulatedMedia',
+            { features: [{ name: 'prefers-color-scheme', value: theme }] });
+        await browser.until(`${isDark} === ${theme === 'dark'}`);
+        await checkColors(browser, theme);
+        await browser.value(`document.getElementById('theme').click(), 0`);
+        await checkColors(browser, theme === 'dark' ? 'light' : 'dark');
+    }
+}
+
+/** The page is one file: it has loaded nothing else. */
+function checkRequests(browser, url) {
+    const others = browser.requests.filter(it => it !== url && !/^(blob|data):/.test(it));
+    require(browser.requests.includes(url) && !others.length, `the page has loaded ${others}`);
+}
+
 /** A script that takes minutes is ended, and the page runs the next one. */
 async function checkLimit(browser) {
     await runScript(browser, 'open,63,1000,4,4611686018427387903,1704067199,0,1\n'
@@ -208,7 +272,8 @@ async function checkLimit(browser) {
 }
 
 async function check(browser, page) {
-    await browser.open(`file://${path.resolve(page)}`, 1440, 2400);
+    const url = `file://${path.resolve(page)}`;
+    await browser.open(url, 1440, 2400);
     const names = fs.readdirSync(DATA).map(it => path.parse(it)).filter(({ name, ext }) =>
         ext === '.report' || ext === '.fault' && !fs.existsSync(`${DATA}${name}.stamps`));
     for (const { name } of names)
@@ -217,6 +282,8 @@ async function check(browser, page) {
     await checkReads(browser);
     await checkReaders(browser);
     await checkLimit(browser);
+    await checkThemes(browser);
+    checkRequests(browser, url);
     require(!browser.errors.length, browser.errors.join('\n'));
     console.log(`${names.length} examples in ${path.basename(page)} have their reports and panels`);
 }
