@@ -116,7 +116,7 @@ fn long(numbers: &SteeredNumbers) -> [u64; 7] {
 }
 
 /// Stops the test if numbers differ.
-fn assert_numbers(rt: &impl Abort, found: &SteeredNumbers, wanted: &SteeredNumbers) {
+pub(super) fn assert_numbers(rt: &impl Abort, found: &SteeredNumbers, wanted: &SteeredNumbers) {
     assert_same(rt, &signed(found), &signed(wanted));
     assert_same(rt, &unsigned(found), &unsigned(wanted));
     assert_same(rt, &long(found), &long(wanted));
