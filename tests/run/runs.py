@@ -1,5 +1,6 @@
 """What the tests of tkrun share."""
 import faulthandler
+import fcntl
 import os
 import pathlib
 import random
@@ -38,6 +39,18 @@ def call(command, **options):
             os.killpg(process.pid, signal.SIGKILL)
             raise
     return subprocess.CompletedProcess(command, process.returncode, *texts)
+
+
+def unpacked(archive, names):
+    """Unpacks files of an archive, once for all processes of a run. Returns the folder."""
+    place = pathlib.Path(PROGRAMS, f"{archive.name}.unpacked")
+    with open(f"{place}.lock", "w") as lock:
+        fcntl.flock(lock, fcntl.LOCK_EX)
+        if not place.exists():
+            begun = pathlib.Path(tempfile.mkdtemp(dir=PROGRAMS))
+            subprocess.run(["tar", "-xf", archive, "-C", begun, *names], check=True)
+            begun.rename(place)
+    return place
 
 
 def wait_until(holds):

@@ -2,12 +2,10 @@
 They come from Debian's package linux-source-6.1, whose archive takes a while to read."""
 import pathlib
 import re
-import shutil
 import subprocess
-import tempfile
 import unittest
 
-from runs import STILL, RunTest, host_call
+from runs import STILL, RunTest, host_call, unpacked
 
 ARCHIVE = pathlib.Path("/usr/src/linux-source-6.1.tar.xz")
 SELFTESTS = "linux-source-6.1/tools/testing/selftests"
@@ -21,11 +19,8 @@ FUTEXES = [
 class Kernel(RunTest):
     @classmethod
     def setUpClass(cls):
-        cls.sources = pathlib.Path(tempfile.mkdtemp(prefix="tkrun-kernel."))
-        cls.addClassCleanup(shutil.rmtree, cls.sources)
-        subprocess.run(["tar", "-xJf", ARCHIVE, "-C", cls.sources, f"{SELFTESTS}/timers",
-                        f"{SELFTESTS}/futex", f"{SELFTESTS}/vDSO", f"{SELFTESTS}/kselftest.h"],
-                       check=True)
+        cls.sources = unpacked(ARCHIVE, [f"{SELFTESTS}/{name}" for name in (
+            "timers", "futex", "vDSO", "kselftest.h")])
 
     def compiled(self, source, *others):
         """Compiles a test, and returns its path, in the test's folder."""
