@@ -3,9 +3,9 @@
 #define _GNU_SOURCE
 #include "grant.h"
 
-#include "eager.h"
 #include "hold.h"
 #include "seeds.h"
+#include "waited.h"
 
 #include <errno.h>
 #include <fcntl.h>
@@ -24,6 +24,7 @@ static struct turns *table; /* NULL without --seed */
 static uint64_t state;	 /* of the random numbers */
 static uint64_t untried; /* moves since the blocked threads have tried */
 static uint64_t stuck;	 /* how often nothing could be done since the latest move or try */
+static bool has_looked;	 /* those that wait for space have looked since something has changed */
 
 static uint64_t draw(void)
 {
@@ -173,6 +174,7 @@ static void let_go(struct run *run, int32_t thread, uint32_t in)
 			entries[count++] = &table->parked[i];
 	}
 	atomic_store(&table->holder, thread);
+	has_looked = false;
 	hold_begins();
 	run->tree.running = thread;
 	for (size_t i = 0; i < count; i++)
@@ -181,10 +183,17 @@ static void let_go(struct run *run, int32_t thread, uint32_t in)
 		host_futex_wake(&entries[i]->word);
 }
 
+void turns_note_change(void)
+{
+	has_looked = false;
+}
+
+/* If nothing can be done, a process that isn't in the run may still read what a thread has written. */
 void turns_note_move(bool has_moved)
 {
 	untried += has_moved;
 	stuck = has_moved ? 0 : stuck + 1;
+	has_looked &= !has_moved && stuck % RETRY_TIMES;
 }
 
 /* How often nothing could be done depends on the host, so it decides only if time doesn't move. */
@@ -216,6 +225,28 @@ static bool try_blocked(struct run *run, int32_t threads[PARKED_MOST])
 	return last;
 }
 
+/* Lets the threads look that wait for space. All of them may at once: they change nothing. Returns
+ * whether there are some. */
+static bool let_look(void)
+{
+	uint32_t all = atomic_load(&table->count);
+	bool is_any = false;
+
+	if (has_looked)
+		return false;
+	has_looked = true;
+	for (uint32_t i = 0; i < all; i++) {
+		struct parked *entry = &table->parked[i];
+
+		if (atomic_load(&entry->thread) <= 0 ||
+		    !parked_change(entry, PARKED_LOOKS, PARKED_LOOKING))
+			continue;
+		host_futex_wake(&entry->word);
+		is_any = true;
+	}
+	return is_any;
+}
+
 /* The order of the threads is that of their numbers, and so the order in which they were made. */
 bool turns_grant(struct run *run)
 {
@@ -225,12 +256,14 @@ bool turns_grant(struct run *run)
 	if (!turns_are_on())
 		return false;
 	atomic_store(&table->holder, 0);
+	if (let_look())
+		return true;
 	count = list_parked(run, PARKED_READY, threads);
 	if (!count)
 		return try_blocked(run, threads);
 	count = sort(threads, count);
 	atomic_store(&table->calls_left, draw_calls());
-	atomic_store(&table->is_each, eager_are_there(&run->tree));
+	atomic_store(&table->is_waited, waited_are_there(&run->tree));
 	let_go(run, threads[draw() % count], PARKED_READY);
 	return true;
 }

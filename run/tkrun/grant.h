@@ -23,6 +23,9 @@ bool turns_has_ready(int32_t thread);
  * Returns false if none is. */
 bool turns_grant(struct run *run);
 
+/* Notes that tkrun has moved bytes. */
+void turns_note_change(void);
+
 /* Notes whether the counter has moved. If it hasn't, no thread was ready, and there was nothing else
  * to do. */
 void turns_note_move(bool has_moved);

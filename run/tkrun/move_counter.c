@@ -274,8 +274,10 @@ bool move_counter(struct run *run)
 		return true;
 	if (turns_grant(run))
 		return false;
-	if (run->count > 1 && (control_serve(run) || net_serve(run->elapsed)))
+	if (run->count > 1 && (control_serve(run) || net_serve(run->elapsed))) {
+		turns_note_change();
 		return false;
+	}
 	if (follow_reads(run))
 		return true;
 	common = pass_steps(run);

@@ -3,14 +3,14 @@
 #define _GNU_SOURCE
 #include "net.h"
 
+#include "clocks/connection.h"
+
 #include <errno.h>
 #include <netinet/tcp.h>
 #include <poll.h>
 #include <stdlib.h>
 #include <string.h>
 #include <unistd.h>
-
-enum { RECEIVE_BYTES = 131072 };
 
 struct opening {
 	struct sockaddr_in server;
@@ -20,7 +20,7 @@ struct opening {
 int net_make_socket(void)
 {
 	int file = socket(AF_INET, SOCK_STREAM | SOCK_CLOEXEC | SOCK_NONBLOCK, 0);
-	int one = 1, bytes = RECEIVE_BYTES;
+	int one = 1, bytes = CONNECTION_RECEIVE_BYTES;
 
 	setsockopt(file, SOL_SOCKET, SO_REUSEADDR, &one, sizeof(one));
 	setsockopt(file, SOL_SOCKET, SO_REUSEPORT, &one, sizeof(one));

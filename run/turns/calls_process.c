@@ -2,7 +2,7 @@
 /* calls_process.c - the calls that start threads and timers, and wait for threads, processes and
  * signals. */
 #define _GNU_SOURCE
-#include "turns.h"
+#include "files.h"
 
 #include <mqueue.h>
 #include <pthread.h>
@@ -125,7 +125,7 @@ AFTER(pid_t, wait3, (int *status, int options, struct rusage *usage), (status, o
 AFTER(pid_t, wait4, (pid_t process, int *status, int options, struct rusage *usage),
       (process, status, options, usage))
 AFTER(int, system, (const char *command), (command))
-AFTER(int, pclose, (FILE * file), (file))
+GIVES(int, pclose, (FILE * file), (file))
 
 AFTER(int, nanosleep, (const struct timespec *span, struct timespec *rest), (span, rest))
 AFTER(int, clock_nanosleep,
@@ -178,24 +178,24 @@ AFTER(int, setitimer,
       (which, time, before))
 AFTER(unsigned int, alarm, (unsigned int seconds), (seconds))
 
-AFTER(int, mq_send, (mqd_t queue, const char *bytes, size_t size, unsigned int priority),
+GIVES(int, mq_send, (mqd_t queue, const char *bytes, size_t size, unsigned int priority),
       (queue, bytes, size, priority))
-AFTER(ssize_t, mq_receive,
+GIVES(ssize_t, mq_receive,
       (mqd_t queue, char *restrict bytes, size_t size, unsigned int *restrict priority),
       (queue, bytes, size, priority))
-AFTER(int, mq_timedsend,
+GIVES(int, mq_timedsend,
       (mqd_t queue, const char *bytes, size_t size, unsigned int priority,
        const struct timespec *time),
       (queue, bytes, size, priority, time))
-AFTER(ssize_t, mq_timedreceive,
+GIVES(ssize_t, mq_timedreceive,
       (mqd_t queue, char *restrict bytes, size_t size, unsigned int *restrict priority,
        const struct timespec *restrict time),
       (queue, bytes, size, priority, time))
-AFTER(int, msgsnd, (int queue, const void *bytes, size_t size, int flags),
+GIVES(int, msgsnd, (int queue, const void *bytes, size_t size, int flags),
       (queue, bytes, size, flags))
-AFTER(ssize_t, msgrcv, (int queue, void *bytes, size_t size, long type, int flags),
+GIVES(ssize_t, msgrcv, (int queue, void *bytes, size_t size, long type, int flags),
       (queue, bytes, size, type, flags))
-AFTER(int, semop, (int set, struct sembuf *operations, size_t count), (set, operations, count))
-AFTER(int, semtimedop,
+GIVES(int, semop, (int set, struct sembuf *operations, size_t count), (set, operations, count))
+GIVES(int, semtimedop,
       (int set, struct sembuf *operations, size_t count, const struct timespec *span),
       (set, operations, count, span))

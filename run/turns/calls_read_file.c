@@ -2,14 +2,14 @@
 /*
  * calls_read_file.c - the calls that read bytes.
  *
- * A thread that waits for bytes gets the first of them at once, and others may be written until it has
- * the turn. How many it gets would depend on the host. So it gets all that are there at its turn.
+ * A thread takes bytes at its turn. If there are none in a stream, it waits without taking any, and looks
+ * again when it has the turn. Of a pipe it takes the first bytes when it wakes, and more at its turn.
  *
  * What the kernel has stored of /dev/random and /dev/urandom is overwritten by bytes of getrandom,
  * which tkrun answers by the seed.
  */
 #define _GNU_SOURCE
-#include "turns.h"
+#include "files.h"
 #include "clocks/host.h"
 
 #include <poll.h>
@@ -52,74 +52,113 @@ static void replace(int file, void *bytes, ssize_t size)
 		fill(bytes, (size_t)size);
 }
 
-/* Returns whether a file is a pipe or a connection: what is read of it twice can be read at once. */
-static bool is_stream(int file)
-{
-	struct stat status;
-	int type = 0;
-	socklen_t size = sizeof(type);
-
-	if (host_call(SYS_fstat, file, (long)&status, 0, 0, 0, 0))
-		return false;
-	if (!S_ISSOCK(status.st_mode))
-		return S_ISFIFO(status.st_mode);
-	return !host_call(SYS_getsockopt, file, SOL_SOCKET, SO_TYPE, (long)&type, (long)&size, 0) &&
-	       type == SOCK_STREAM;
-}
-
-/* Reads more bytes of a stream, if there are some. At an error the next call finds it. */
+/* Reads more bytes of a pipe, if there are some. At an error the next call finds it. */
 static ssize_t read_more(int file, void *bytes, size_t size)
 {
 	struct pollfd there = { file, POLLIN, 0 };
 	long more;
 
-	if (!size || !is_stream(file) || host_call(SYS_poll, (long)&there, 1, 0, 0, 0, 0) != 1 ||
+	if (!size || host_call(SYS_poll, (long)&there, 1, 0, 0, 0, 0) != 1 ||
 	    !(there.revents & POLLIN) || there.revents & (POLLERR | POLLNVAL))
 		return 0;
 	more = host_call(SYS_read, file, (long)bytes, (long)size, 0, 0, 0);
 	return more > 0 ? more : 0;
 }
 
-/* Returns how many bytes a call has read when it has the turn. A thread that waits to write more goes
- * on then, and what it writes is read, too: how much the call has found first depends on the host. */
-static ssize_t end_read(int file, void *bytes, size_t most, ssize_t size, const void *caller)
-{
-	bool goes_on = turn_need(caller) && size > 0;
-	ssize_t more = goes_on;
+/* A call that reads bytes. */
+struct reading {
+	char *bytes;
+	size_t most;
+	int file, flags;
+	enum file_kind kind;
+	const void *caller;
+};
 
-	while (more && goes_on) {
-		more = read_more(file, (char *)bytes + size, most - (size_t)size);
-		size += more;
-		goes_on = turn_is_each();
-		if (more && goes_on)
-			turn_pass(caller);
+/* Waits for a stream's bytes. Returns false if the call has failed. */
+static bool begin_read(struct reading *reading)
+{
+	int error = 0;
+
+	turn_have(reading->caller);
+	reading->kind = file_kind(reading->file);
+	if ((reading->kind == KIND_STREAM || reading->kind == KIND_TCP) && reading->most &&
+	    !(reading->flags & (MSG_OOB | MSG_ERRQUEUE)) &&
+	    file_blocks(reading->file, reading->flags))
+		error = file_await(reading->file, reading->caller);
+	if (error)
+		errno = error;
+	return !error;
+}
+
+/* Reads the rest of a stream for a call that waits for all of it. */
+static ssize_t read_all(const struct reading *reading, ssize_t size)
+{
+	ssize_t more = size;
+
+	while (more > 0 && (size_t)size < reading->most) {
+		kind_changed(reading->kind, reading->caller);
+		if (file_await(reading->file, reading->caller))
+			return size;
+		more = host_call(SYS_recvfrom, reading->file, (long)(reading->bytes + size),
+				 (long)(reading->most - (size_t)size), MSG_DONTWAIT, 0, 0);
+		size += more > 0 ? more : 0;
 	}
 	return size;
 }
 
-#define READ(name, parameters, arguments)              \
-	EXPORT ssize_t name parameters                 \
-	{                                              \
-		ssize_t size = REAL(name) arguments;   \
-                                                       \
-		replace(file, bytes, size);            \
-		return end_read(file, bytes, most, size, CALLER); \
+/* Returns how many bytes a call has read when it has the turn. A thread that waits for a pipe takes what
+ * the first writer has written, and gets the rest here. */
+static ssize_t end_read(const struct reading *reading, ssize_t size)
+{
+	bool is_stream = reading->kind == KIND_STREAM || reading->kind == KIND_TCP;
+
+	if (is_stream && reading->flags & MSG_WAITALL && !(reading->flags & MSG_PEEK) && size > 0 &&
+	    file_blocks(reading->file, reading->flags))
+		size = read_all(reading, size);
+	if (reading->kind == KIND_PIPE && turn_need(reading->caller) && size > 0)
+		size += read_more(reading->file, reading->bytes + size, reading->most - (size_t)size);
+	kind_changed(reading->kind, reading->caller);
+	return size;
+}
+
+#define READ(name, parameters, arguments)                                            \
+	EXPORT ssize_t name parameters                                                \
+	{                                                                             \
+		struct reading reading = { bytes, most, file, 0, KIND_OTHER, CALLER };  \
+		bool is_own = turn_is_own(CALLER);                                    \
+		ssize_t size;                                                         \
+                                                                                      \
+		if (is_own && !begin_read(&reading))                                  \
+			return -1;                                                    \
+		size = REAL(name) arguments;                                          \
+		replace(file, bytes, size);                                           \
+		return is_own ? end_read(&reading, size) : size;                      \
 	}
 
 READ(read, (int file, void *bytes, size_t most), (file, bytes, most))
 extern ssize_t __read_chk(int file, void *bytes, size_t most, size_t room);
 READ(__read_chk, (int file, void *bytes, size_t most, size_t room), (file, bytes, most, room))
 
-/* The same of a socket, without a flag that other bytes would need too. */
-#define RECEIVE(name, parameters, arguments)                         \
-	EXPORT ssize_t name parameters                               \
-	{                                                            \
-		ssize_t size = REAL(name) arguments;                 \
-                                                                     \
-		if (!(flags & ~(MSG_DONTWAIT | MSG_NOSIGNAL)))       \
-			return end_read(file, bytes, most, size, CALLER); \
-		turn_need(CALLER);                                   \
-		return size;                                         \
+/* Returns the flags of a call that takes what is there. */
+static int flags_of(const struct reading *reading)
+{
+	bool is_stream = reading->kind == KIND_STREAM || reading->kind == KIND_TCP;
+
+	return is_stream ? reading->flags | MSG_DONTWAIT : reading->flags;
+}
+
+#define RECEIVE(name, parameters, arguments)                                             \
+	EXPORT ssize_t name parameters                                                    \
+	{                                                                                 \
+		struct reading reading = { bytes, most, file, flags, KIND_OTHER, CALLER };  \
+		bool is_own = turn_is_own(CALLER);                                        \
+		ssize_t size;                                                             \
+                                                                                          \
+		if (is_own && !begin_read(&reading))                                      \
+			return -1;                                                        \
+		flags = is_own ? flags_of(&reading) : flags;                              \
+		size = REAL(name) arguments;                                              \
+		return is_own ? end_read(&reading, size) : size;                          \
 	}
 
 RECEIVE(recv, (int file, void *bytes, size_t most, int flags), (file, bytes, most, flags))
@@ -137,6 +176,20 @@ RECEIVE(__recvfrom_chk,
 	 socklen_t *length),
 	(file, bytes, most, room, flags, name, length))
 
+/* Those with several parts wait for the first bytes of a stream only. */
+
+EXPORT ssize_t recvmsg(int file, struct msghdr *message, int flags)
+{
+	struct reading reading = { NULL, 1, file, flags, KIND_OTHER, CALLER };
+	ssize_t size;
+
+	if (turn_is_own(CALLER) && !begin_read(&reading))
+		return -1;
+	size = REAL(recvmsg)(file, message, flags);
+	kind_changed(reading.kind, CALLER);
+	return size;
+}
+
 #define READ_AT(name, parameters, arguments)           \
 	EXPORT ssize_t name parameters                 \
 	{                                              \
@@ -152,15 +205,19 @@ READ_AT(pread64, (int file, void *bytes, size_t most, off64_t at), (file, bytes,
 
 EXPORT ssize_t readv(int file, const struct iovec *parts, int count)
 {
-	ssize_t size = REAL(readv)(file, parts, count), left = size;
+	struct reading reading = { NULL, 1, file, 0, KIND_OTHER, CALLER };
+	ssize_t size, left;
 
+	if (turn_is_own(CALLER) && !begin_read(&reading))
+		return -1;
+	left = size = REAL(readv)(file, parts, count);
 	for (int i = 0; left > 0 && i < count; i++) {
 		ssize_t part = left < (ssize_t)parts[i].iov_len ? left : (ssize_t)parts[i].iov_len;
 
 		replace(file, parts[i].iov_base, part);
 		left -= part;
 	}
-	turn_need(CALLER);
+	kind_changed(reading.kind, CALLER);
 	return size;
 }
 
@@ -176,7 +233,7 @@ EXPORT size_t fread(void *restrict bytes, size_t size, size_t count, FILE *restr
 	size_t done = REAL(fread)(bytes, size, count, file);
 
 	replace_items(file, bytes, size, done);
-	turn_need(CALLER);
+	kind_changed(KIND_OTHER, CALLER);
 	return done;
 }
 
@@ -185,7 +242,7 @@ EXPORT size_t fread_unlocked(void *restrict bytes, size_t size, size_t count, FI
 	size_t done = REAL(fread_unlocked)(bytes, size, count, file);
 
 	replace_items(file, bytes, size, done);
-	turn_need(CALLER);
+	kind_changed(KIND_OTHER, CALLER);
 	return done;
 }
 

@@ -102,7 +102,7 @@ static struct turns *map_table(void)
 }
 
 /* Before main. The library of the clocks says first that it is there: this process may have to wait
- * for long. */
+ * for long. Others have found by then which files it has closed when it executed its program. */
 __attribute__((constructor)) static void start(void)
 {
 	size_t count = 0;
@@ -113,6 +113,7 @@ __attribute__((constructor)) static void start(void)
 	pthread_atfork(NULL, NULL, turn_begin);
 	turns_table = map_table();
 	turn_forget();
+	turn_pass(NULL);
 	turn_need(NULL);
 	errno = error;
 }

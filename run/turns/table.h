@@ -7,13 +7,18 @@
  *    the turn then, it parks: it takes an entry and waits for its state to become PARKED_GRANTED.
  * 2. The thread that has the turn runs until it waits for something, or until it has made
  *    `calls_left` calls: then it parks, too. The call in which it parks is the first one.
- *    It parks in each call while a thread waits in the kernel in a call that goes on before that
- *    thread has the turn (is_each), and after each signal that it sends.
+ *    It also parks after each signal that it sends, and after each call by which a file may become
+ *    ready, if a thread waits for files in the kernel (is_waited): what that one finds when it wakes
+ *    doesn't depend on the next call.
  * 3. When all threads wait, tkrun takes the turn from its holder, and grants it to one of those that
  *    are PARKED_READY, by the seed. If none is, time moves.
  * 4. A thread that waits for a lock is PARKED_BLOCKED. Whoever unlocks it makes it PARKED_READY.
  * 5. A thread that waits for a condition variable has an entry that is PARKED_WAITING. A signal makes
  *    the first of these entries, by their order, PARKED_SIGNALLED. Then the thread needs the turn.
+ * 6. A thread that waits for space in a pipe or a connection is PARKED_LOOKS. When all threads wait,
+ *    and one has had the turn or time has moved since it has looked, tkrun makes it PARKED_LOOKING: it
+ *    looks whether there is space. If there is, it needs the turn. So there is space for it when the
+ *    order of turns says so, whenever the kernel has moved bytes.
  */
 #ifndef TABLE_H
 #define TABLE_H
@@ -22,7 +27,7 @@
 #include <stdbool.h>
 #include <stdint.h>
 
-enum { TURNS_LAYOUT = 0x746b5404, PARKED_MOST = 4096 };
+enum { TURNS_LAYOUT = 0x746b5405, PARKED_MOST = 4096 };
 
 enum parked_state {
 	PARKED_READY,
@@ -30,6 +35,8 @@ enum parked_state {
 	PARKED_GRANTED,
 	PARKED_WAITING,
 	PARKED_SIGNALLED,
+	PARKED_LOOKS,
+	PARKED_LOOKING,
 };
 
 /* A state is in the low bits of a word, and in the others how often the entry was taken: a thread that
@@ -71,7 +78,7 @@ struct turns {
 	_Atomic uint32_t is_off; /* threads need no turn any more */
 	_Alignas(64) _Atomic int32_t holder; /* the thread that has the turn, or 0 */
 	_Atomic uint32_t calls_left; /* until it parks */
-	_Atomic uint32_t is_each;    /* it parks in each call */
+	_Atomic uint32_t is_waited;  /* another thread waits for files in the kernel */
 	_Atomic uint32_t count;	     /* entries that were ever taken */
 	_Atomic uint32_t blocked;    /* at least how many threads wait for locks */
 	_Atomic uint32_t shared;     /* condition variables of several processes that have a key */

@@ -67,21 +67,23 @@ static bool is_last_call(void)
 	return left == 1;
 }
 
-bool turn_is_each(void)
+bool turn_is_own(const void *caller)
 {
-	return turn_is_on() && atomic_load_explicit(&turns_table->is_each, memory_order_relaxed);
+	return turn_is_for(caller) && !is_borrowed();
+}
+
+bool turn_is_waited(void)
+{
+	return turn_is_on() && atomic_load_explicit(&turns_table->is_waited, memory_order_relaxed);
 }
 
 bool turn_need(const void *caller)
 {
-	bool is_last;
-
 	if (!turn_is_for(caller) || is_borrowed_wait())
 		return false;
 	if (atomic_load(&turns_table->holder) != turn_thread())
 		park();
-	is_last = is_last_call();
-	if ((!is_last && !turn_is_each()) || is_borrowed())
+	if (!is_last_call() || is_borrowed())
 		return true;
 	park();
 	is_last_call();
@@ -133,6 +135,39 @@ enum block_end turn_block(uint64_t key, bool is_cancelled, const struct limit *l
 	parked_leave(entry);
 	atomic_fetch_sub(&turns_table->blocked, 1);
 	if (turn_is_on() && atomic_load(&turns_table->holder) != turn_thread())
+		park();
+	return end;
+}
+
+/* Looks when tkrun lets it. Returns false if it has to wait. */
+static bool look(struct parked *entry, bool (*is_there)(void *), void *what)
+{
+	if (parked_state(entry) != PARKED_LOOKING)
+		return false;
+	if (is_there(what))
+		return true;
+	parked_change(entry, PARKED_LOOKING, PARKED_LOOKS);
+	return false;
+}
+
+enum block_end turn_look(bool (*is_there)(void *), void *what, const struct limit *limit)
+{
+	int32_t thread = turn_thread();
+	struct parked *entry = parked_enter(thread, PARKED_LOOKS, 0);
+	uint32_t word = entry ? ready_word(entry) - PARKED_READY + PARKED_LOOKS : 0;
+	enum block_end end = BLOCK_UNLOCKED;
+	long result;
+
+	while (entry && end == BLOCK_UNLOCKED && turn_is_on() &&
+	       atomic_load(&entry->thread) == thread && !look(entry, is_there, what)) {
+		result = parked_wait_cancelled(entry, word, limit);
+		end = result == -EINTR	     ? BLOCK_INTERRUPTED
+		      : result == -ETIMEDOUT ? BLOCK_LATE
+					     : BLOCK_UNLOCKED;
+	}
+	if (entry)
+		parked_leave(entry);
+	if (turn_is_on() && atomic_load(&turns_table->holder) != thread)
 		park();
 	return end;
 }

@@ -56,12 +56,17 @@ void *turn_real_call(const char *name);
 		return result;                         \
 	}
 
-/* Return whether threads need the turn, whether its holder parks in each call, and whether a caller
- * needs it: it isn't a library of tkrun. The last one also returns true after turns have ended. */
+/* Return whether threads need the turn, and whether a caller needs it: it isn't a library of tkrun. The
+ * last one also returns true after turns have ended. */
 bool turn_is_on(void);
-bool turn_is_each(void);
 bool turn_is_for(const void *caller);
 bool turn_is_found(const void *caller);
+
+/* Returns whether the caller needs the turn, and isn't a child of vfork: that one has its parent's. */
+bool turn_is_own(const void *caller);
+
+/* Returns whether another thread waits for files in the kernel. */
+bool turn_is_waited(void);
 
 /* Waits until this thread has the turn, if the caller needs it, and counts the call. Changes no
  * errno. Returns whether the thread has the turn now: what it has found by its call may be less than
@@ -85,6 +90,10 @@ enum block_end { BLOCK_UNLOCKED, BLOCK_INTERRUPTED, BLOCK_LATE };
 /* Waits until a lock was unlocked, or a handler has run, or a time has come if there is a limit, and
  * then for the turn. In the wait, the thread is cancelled if `is_cancelled`. */
 enum block_end turn_block(uint64_t key, bool is_cancelled, const struct limit *limit);
+
+/* Waits until something is there, as a function says that looks: it changes nothing. Then waits for the
+ * turn, when it may be gone again. */
+enum block_end turn_look(bool (*is_there)(void *what), void *what, const struct limit *limit);
 
 /* Lets the threads be ready that wait for a lock. */
 void turn_unblock(uint64_t key);

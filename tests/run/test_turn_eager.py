@@ -1,4 +1,4 @@
-"""--seed: threads that go on in the kernel, before they have the turn (turn_eager.c, turn_sent.c)."""
+"""--seed: what a thread finds after another one was let go (turn_eager.c, turn_sent.c)."""
 from runs import STILL, RunTest, program
 
 
@@ -13,11 +13,22 @@ class Eager(RunTest):
         for seed in range(3):
             self.assertEqual(self.shown(name, how, seed), [*words])
 
-    def test_a_writer_fills_a_pipe_again_before_the_next_read(self):
-        self.check("turn_eager", "pipe", *["10000"] * 60)
+    def check_reads(self, how, total):
+        """A writer waits for space. How much of that each read finds depends on the seed only."""
+        found = set()
+        for seed in range(3):
+            sizes = self.shown("turn_eager", how, seed)
+            self.assertEqual(sum(map(int, sizes)), total)
+            self.assertLessEqual(max(map(int, sizes)), 10000)
+            self.assertEqual(self.shown("turn_eager", how, seed), sizes)
+            found.add(tuple(sizes))
+        self.assertGreater(len(found), 1)
 
-    def test_a_writer_fills_a_connection_again_before_the_next_read(self):
-        self.check("turn_eager", "socket", *["10000"] * 120)
+    def test_reads_of_a_full_pipe(self):
+        self.check_reads("pipe", 2 * 300000)
+
+    def test_reads_of_a_full_connection(self):
+        self.check_reads("socket", 4 * 300000)
         for seed in range(3):  # what is left then depends on when the writer has got its turn
             rest = self.shown("turn_eager", "rest", seed)
             self.assertEqual(self.shown("turn_eager", "rest", seed), rest)

@@ -1,8 +1,7 @@
 /* SPDX-License-Identifier: MIT OR Apache-2.0 */
 /*
- * turn_eager HOW FILE: one thread or process takes something from the kernel, and another one goes on
- * there, before it has the turn. Prints what the first one finds by its next call. On the host it may
- * find less or more.
+ * turn_eager HOW FILE: one thread or process takes something from the kernel, and another one waits for
+ * that. Prints what the first one finds by its next call. On the host it may find less or more.
  */
 #define _GNU_SOURCE
 #include <errno.h>
@@ -57,8 +56,7 @@ static void *write_all(void *socket)
 	return NULL;
 }
 
-/* Each read finds all that it asks for, and the rest is as much as there is space for, since the
- * writer has gone on. */
+/* Prints what each read has found, or what is left then: the writer goes on when it has the turn. */
 static void show_reads(int is_socket, int is_rest)
 {
 	pthread_t writer;
