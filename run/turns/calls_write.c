@@ -127,6 +127,19 @@ static ssize_t write_some(const struct rest *rest)
 	return REAL(sendmsg)(rest->file, &next, rest->flags | MSG_DONTWAIT);
 }
 
+/* Returns the error that a call of the kernel's finds when it has waited, or 0. Another call finds it, too,
+ * except for AF_UNIX. */
+static int error_after_wait(const struct rest *rest)
+{
+	int error = 0;
+	socklen_t size = sizeof(error);
+
+	if (rest->kind == KIND_STREAM)
+		host_call(SYS_getsockopt, rest->file, SOL_SOCKET, SO_ERROR, (long)&error,
+			  (long)&size, 0);
+	return error;
+}
+
 /* Returns whether the next call would find an error: one that has written a part returns that. */
 static bool has_failed(const struct rest *rest)
 {
@@ -145,9 +158,10 @@ static ssize_t write_all(struct rest *rest, const void *caller)
 	while (!is_whole && !(done && has_failed(rest))) {
 		some = write_some(rest);
 		if (some < 0 && errno == EAGAIN) {
-			if (file_await_room(rest->file, rest->kind))
+			errno = file_await_room(rest->file, rest->kind) ? error_after_wait(rest)
+									: EINTR;
+			if (!errno)
 				continue;
-			errno = EINTR;
 		}
 		if (some < 0)
 			return done ? done : -1;

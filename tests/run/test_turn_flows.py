@@ -3,7 +3,7 @@ import errno
 import re
 
 from links import ADDRESSES, PORT
-from runs import STILL, TKRUN, RunTest, call, program
+from runs import STILL, TKRUN, RunTest, call, host_call, program
 
 FLOWS = program("turn_flows")
 TOTAL, SPACE, PIPE = 700000, 131072, 65536  # bytes of a run, of a connection of TCP, and of a pipe
@@ -30,7 +30,9 @@ left, was_full = 0, False
 def same(found, expected, what):
     if found != expected: sys.exit(f"{{what}}: {{found}} for {{expected}}")
 for step in range(400):
-    size = chosen.choice([1, 100, 5000, 40000, 131072, 200000])
+    # also sizes after which a quarter is free, or a byte less
+    size = chosen.choice([1, 100, 5000, 40000, 131072, 200000,
+                          max(1, SPACE - left - SPACE // 4), max(1, SPACE - left - SPACE // 4 + 1)])
     if chosen.random() < 0.5:
         try: sent = out.send(bytes(size))
         except BlockingIOError: sent = 0
@@ -96,6 +98,9 @@ class Flows(RunTest):
             return
         self.assertEqual((read, written), (TOTAL, TOTAL))
         self.assertEqual(reads[-1], (0, 0, 0))
+        if "reply" in text:  # in ten parts, for which one call waits
+            self.assertEqual((text.count("reply 100\n"), text.count("got 1000\n"),
+                              text.count("then 0\n")), (10, 1, 1))
 
     def check_kind(self, kind, space):
         texts = []
@@ -140,6 +145,17 @@ class Flows(RunTest):
                 writes = re.findall(r"write (-?\d+) (\d+)", text)
                 self.assertEqual(writes[-1], ("-1", str(error)), kind)
                 self.assertTrue(all(int(size) > 0 for size, _ in writes[:-1]))
+
+    def test_what_ends_a_wait(self):
+        # as on the host, where a connection of TCP has space for another number of bytes each time
+        texts = host_call(program("turn_blocked")).split("unix\n")
+        same = texts[0] + "".join("unix\n" + text for text in texts[1:4]).split("tcp\n")[0]
+        for seed in range(SEEDS):
+            shown = self.run_on(*STILL, "--seed", seed, "--", program("turn_blocked"))
+            pipe_and_unix, *tcp = shown.split("tcp\n")
+            self.assertEqual(pipe_and_unix, same)
+            self.assertEqual("".join("unix\n" + text for text in tcp),
+                             same[same.index("unix\n"):])
 
     def test_each_call_against_a_model(self):
         for seed in range(SEEDS):

@@ -137,6 +137,7 @@ static ssize_t write_by(int call, int file, char *bytes, size_t size)
 	struct msghdr message = { .msg_iov = parts, .msg_iovlen = 3 };
 	int is_socket = fcntl(file, F_GETPIPE_SZ) < 0;
 
+	errno = 0;
 	if (call % 4 == 1)
 		return writev(file, parts, 3);
 	if (call % 4 == 2 && is_socket)
@@ -187,6 +188,25 @@ static int left_of(int file)
 	return ioctl(file, FIONREAD, &left) ? -errno : left;
 }
 
+/* Reads by another call each time. */
+static ssize_t read_by(int call, int file, char *bytes, size_t size)
+{
+	struct iovec parts[2] = { { bytes, size / 3 }, { bytes + size / 3, size - size / 3 } };
+	struct msghdr message = { .msg_iov = parts, .msg_iovlen = 2 };
+	int is_socket = fcntl(file, F_GETPIPE_SZ) < 0;
+
+	errno = 0;
+	if (call % 5 == 1)
+		return readv(file, parts, 2);
+	if (call % 5 == 2 && is_socket)
+		return recv(file, bytes, size, 0);
+	if (call % 5 == 3 && is_socket)
+		return recvmsg(file, &message, 0);
+	if (call % 5 == 4 && is_socket)
+		return recvfrom(file, bytes, size, 0, NULL, NULL);
+	return read(file, bytes, size);
+}
+
 static void *read_all(void *unused)
 {
 	static char bytes[PIECE_MOST];
@@ -196,7 +216,7 @@ static void *read_all(void *unused)
 
 	while (size > 0 && (done < most || most == TOTAL)) {
 		errno = 0;
-		size = read(file, bytes, (size_t)schedule->read_bytes);
+		size = read_by(calls, file, bytes, (size_t)schedule->read_bytes);
 		note("read %zd %d, left %d, events %x", size, errno, left_of(file),
 		     events_of(file, POLLIN | POLLOUT | POLLRDHUP));
 		for (ssize_t i = 0; i < size; i++)
@@ -210,17 +230,23 @@ static void *read_all(void *unused)
 }
 
 /* After the writer's end of its half, the other half goes on. */
-static void reply(void)
+static void *reply(void *unused)
 {
 	char bytes[REPLY] = "";
 
-	note("reply %zd", write(ends[0], bytes, sizeof(bytes)));
+	for (int i = 0; i < REPLY; i += REPLY / 10) {
+		note("reply %zd", write(ends[0], bytes + i, REPLY / 10));
+		nap(i, 1);
+	}
+	close(ends[0]);
+	return unused;
 }
 
 static void get_reply(void)
 {
 	char bytes[REPLY];
 
+	fcntl(ends[1], F_SETFL, 0);
 	note("got %zd", recv(ends[1], bytes, sizeof(bytes), MSG_WAITALL));
 	note("then %zd", read(ends[1], bytes, 1));
 }
@@ -276,12 +302,14 @@ static void run_both(const char *kind)
 	pthread_create(&threads[0], NULL, read_all, NULL);
 	pthread_create(&threads[1], NULL, write_all, NULL);
 	pthread_join(threads[0], NULL);
-	if (schedule->end == END_SHUTDOWN && *kind != 'p')
-		reply();
-	close(ends[0]);
+	if (schedule->end != END_SHUTDOWN || *kind == 'p')
+		close(ends[0]);
 	pthread_join(threads[1], NULL);
-	if (schedule->end == END_SHUTDOWN && *kind != 'p')
-		get_reply();
+	if (schedule->end != END_SHUTDOWN || *kind == 'p')
+		return;
+	pthread_create(&threads[0], NULL, reply, NULL);
+	get_reply();
+	pthread_join(threads[0], NULL);
 }
 
 static void run_apart(const char *kind, char **words)
@@ -296,9 +324,12 @@ static void run_apart(const char *kind, char **words)
 		connect_to(&name);
 		write_all(NULL);
 	}
-	if (schedule->end == END_SHUTDOWN)
-		(reads ? reply : get_reply)();
-	close(ends[reads ? 0 : 1]);
+	if (schedule->end == END_SHUTDOWN && reads)
+		reply(NULL);
+	else if (schedule->end == END_SHUTDOWN)
+		get_reply();
+	else
+		close(ends[reads ? 0 : 1]);
 }
 
 int main(int count, char **words)
