@@ -104,7 +104,8 @@ static bool ask(int file, struct receiver *receiver)
 	if (link < 0)
 		return false;
 	if (host_call(SYS_sendto, link, (long)&ask, sizeof(ask), 0, 0, 0) == sizeof(ask))
-		size = host_call(SYS_recvfrom, link, (long)answer, sizeof(answer), MSG_DONTWAIT, 0, 0);
+		size = host_call(SYS_recvfrom, link, (long)answer, sizeof(answer), MSG_DONTWAIT, 0,
+				 0);
 	host_call(SYS_close, link, 0, 0, 0, 0, 0);
 	return size > 0 && read_answer((struct nlmsghdr *)answer, (size_t)size, receiver);
 }

@@ -43,8 +43,8 @@ static void reset(struct half *half)
 	close_stream(half->stream);
 }
 
-/* Sends some bytes. With --seed the receiver has room for as many as its reads leave, and not for as
- * many as the kernel takes now. Returns how many, or -1. */
+/* Sends some bytes. With --seed the receiver has room for as many as its reads leave, and not for
+ * as many as the kernel takes now. Returns how many, or -1. */
 static ssize_t send_some(int file, const char *bytes, size_t size)
 {
 	struct receiver receiver;

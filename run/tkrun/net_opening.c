@@ -4,6 +4,7 @@
 #include "net.h"
 
 #include "clocks/connection.h"
+#include "grant.h"
 
 #include <errno.h>
 #include <netinet/tcp.h>
@@ -11,6 +12,8 @@
 #include <stdlib.h>
 #include <string.h>
 #include <unistd.h>
+
+enum { RECEIVE_BYTES = 131072 };
 
 struct opening {
 	struct sockaddr_in server;
@@ -20,7 +23,7 @@ struct opening {
 int net_make_socket(void)
 {
 	int file = socket(AF_INET, SOCK_STREAM | SOCK_CLOEXEC | SOCK_NONBLOCK, 0);
-	int one = 1, bytes = CONNECTION_RECEIVE_BYTES;
+	int one = 1, bytes = turns_are_on() ? CONNECTION_RECEIVE_BYTES : RECEIVE_BYTES;
 
 	setsockopt(file, SOL_SOCKET, SO_REUSEADDR, &one, sizeof(one));
 	setsockopt(file, SOL_SOCKET, SO_REUSEPORT, &one, sizeof(one));

@@ -1,7 +1,7 @@
 /* SPDX-License-Identifier: MIT OR Apache-2.0 */
 /*
- * waited.h - with --seed, the threads that wait for files in the kernel. They wake before they have the
- * turn, and find or take what the holder of the turn has given them by then.
+ * waited.h - with --seed, the threads that wait for files in the kernel. They wake before they have
+ * the turn, and find or take what the holder of the turn has given them by then.
  */
 #ifndef WAITED_H
 #define WAITED_H

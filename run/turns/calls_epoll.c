@@ -1,8 +1,8 @@
 /* SPDX-License-Identifier: MIT OR Apache-2.0 */
 /*
- * calls_epoll.c - the calls that wait for files of an epoll. As in calls_poll.c, a thread looks again at
- * its turn, and a connection that is full by our count isn't writable. The kernel says which files an
- * epoll has, in /proc.
+ * calls_epoll.c - the calls that wait for files of an epoll. As in calls_poll.c, a thread looks
+ * again at its turn, and a connection that is full by our count isn't writable. The kernel says
+ * which files an epoll has, in /proc.
  */
 #define _GNU_SOURCE
 #include "files.h"
@@ -114,8 +114,8 @@ static void find_full(const struct member *member, void *what)
 	full_note(member->file, true);
 }
 
-/* Takes the files from the events that are full, and not ready for something else. Returns the number of
- * the others. */
+/* Takes the files from the events that are full, and not ready for something else. Returns the
+ * number of the others. */
 static int leave_out_full(int epoll, struct epoll_event *events, int count)
 {
 	int kept = 0;
@@ -133,8 +133,8 @@ static int leave_out_full(int epoll, struct epoll_event *events, int count)
 	return kept;
 }
 
-/* Notes whether an epoll waits for a full file, and lets it report again one that isn't any more: the
- * kernel reports no change. */
+/* Notes whether an epoll waits for a full file, and lets it report again one that isn't any more:
+ * the kernel reports no change. */
 struct watch {
 	int epoll;
 	bool has_full;
@@ -178,7 +178,8 @@ static bool look_at_epoll(void *what)
 	if (waited->found > 0) /* the kernel reports an edge once */
 		return true;
 	has_full(waited->epoll);
-	found = host_call(SYS_epoll_wait, waited->epoll, (long)waited->events, waited->most, 0, 0, 0);
+	found = host_call(SYS_epoll_wait, waited->epoll, (long)waited->events, waited->most, 0, 0,
+			  0);
 	waited->found = found > 0 ? leave_out_full(waited->epoll, waited->events, (int)found)
 				  : (int)found;
 	return waited->found;

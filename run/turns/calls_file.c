@@ -11,8 +11,8 @@
 #include <sys/socket.h>
 #include <unistd.h>
 
-/* Defines a call by which a file may become ready. What other threads have waited for, they have found
- * when it returns. */
+/* Defines a call by which a file may become ready. What other threads have waited for, they have
+ * found when it returns. */
 #define CHANGES(type, name, parameters, arguments)     \
 	EXPORT type name parameters                    \
 	{                                              \
@@ -40,8 +40,8 @@ CHANGES(int, accept4,
 	(file, name, length, flags))
 CHANGES(int, shutdown, (int file, int how), (file, how))
 
-/* A thread that waits for a lock of a file has it when a call that unlocks it returns. So does closing
- * the file. */
+/* A thread that waits for a lock of a file has it when a call that unlocks it returns. So does
+ * closing the file. */
 
 GIVES(int, close, (int file), (file))
 GIVES(int, dup2, (int from, int to), (from, to))

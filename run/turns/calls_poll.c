@@ -3,8 +3,8 @@
  * calls_poll.c - the calls that wait for one of several files. A thread that waits is woken by the
  * first file that is ready, and more may be ready when it has the turn. So it looks again then.
  *
- * A connection of TCP that is full by our count isn't writable, whatever the kernel says. A thread that
- * waits for it looks when tkrun lets it, as a writer does (table.h).
+ * A connection of TCP that is full by our count isn't writable, whatever the kernel says. A thread
+ * that waits for it looks when tkrun lets it, as a writer does (table.h).
  */
 #define _GNU_SOURCE
 #include "files.h"
@@ -18,8 +18,8 @@
 
 enum { FILES_MOST = 256 };
 
-/* Returns how many files are ready at the turn. If another thread has taken all that was there, they
- * are those that were. */
+/* Returns how many files are ready at the turn. If another thread has taken all that was there,
+ * they are those that were. */
 static int poll_again(struct pollfd *files, nfds_t count, int found, const void *caller)
 {
 	struct pollfd before[FILES_MOST];
@@ -190,7 +190,8 @@ static int select_again(struct sets *sets, int found, const void *caller)
 	return again > 0 ? (int)again : found;
 }
 
-/* Takes the files that are full from a set of those to be written. Returns whether there were some. */
+/* Takes the files that are full from a set of those to be written. Returns whether there were
+ * some. */
 static bool take_full(uint64_t *out, size_t bytes)
 {
 	bool is_any = false;

@@ -2,8 +2,9 @@
 /*
  * calls_read_file.c - the calls that read bytes.
  *
- * A thread takes bytes at its turn. If there are none in a stream, it waits without taking any, and looks
- * again when it has the turn. Of a pipe it takes the first bytes when it wakes, and more at its turn.
+ * A thread takes bytes at its turn. If there are none in a stream, it waits without taking any, and
+ * looks again when it has the turn. Of a pipe it takes the first bytes when it wakes, and more at
+ * its turn.
  *
  * What the kernel has stored of /dev/random and /dev/urandom is overwritten by bytes of getrandom,
  * which tkrun answers by the seed.
@@ -106,8 +107,8 @@ static ssize_t read_all(const struct reading *reading, ssize_t size)
 	return size;
 }
 
-/* Returns how many bytes a call has read when it has the turn. A thread that waits for a pipe takes what
- * the first writer has written, and gets the rest here. */
+/* Returns how many bytes a call has read when it has the turn. A thread that waits for a pipe takes
+ * what the first writer has written, and gets the rest here. */
 static ssize_t end_read(const struct reading *reading, ssize_t size)
 {
 	bool is_stream = reading->kind == KIND_STREAM || reading->kind == KIND_TCP;
@@ -116,7 +117,8 @@ static ssize_t end_read(const struct reading *reading, ssize_t size)
 	    file_blocks(reading->file, reading->flags))
 		size = read_all(reading, size);
 	if (reading->kind == KIND_PIPE && turn_need(reading->caller) && size > 0)
-		size += read_more(reading->file, reading->bytes + size, reading->most - (size_t)size);
+		size += read_more(reading->file, reading->bytes + size,
+				  reading->most - (size_t)size);
 	kind_changed(reading->kind, reading->caller);
 	return size;
 }

@@ -1,8 +1,9 @@
 /* SPDX-License-Identifier: MIT OR Apache-2.0 */
 /*
- * calls_write.c - the calls that write bytes. A thread writes to a pipe, a stream or a connection what
- * there is space for at its turn. If it waits for more, it does so in the table, not in the kernel, which
- * would go on as soon as a reader has taken some, and before the reader has taken all.
+ * calls_write.c - the calls that write bytes. A thread writes to a pipe, a stream or a connection
+ * what there is space for at its turn. If it waits for more, it does so in the table, not in the
+ * kernel, which would go on as soon as a reader has taken some, and before the reader has taken
+ * all.
  */
 #define _GNU_SOURCE
 #include "files.h"
@@ -51,7 +52,8 @@ static void advance(struct rest *rest, size_t bytes)
 
 /* Makes a message of the next bytes, at most some. What comes with the message goes with its first
  * bytes. */
-static struct msghdr next_bytes(const struct rest *rest, struct iovec parts[PARTS_MOST], size_t most)
+static struct msghdr next_bytes(const struct rest *rest, struct iovec parts[PARTS_MOST],
+				size_t most)
 {
 	struct msghdr message = *rest->message;
 	size_t from = rest->part, skip = rest->offset, count = 0;
@@ -121,14 +123,15 @@ static ssize_t write_some(const struct rest *rest)
 
 	if (rest->kind == KIND_PIPE)
 		return write_pipe(rest);
-	if (rest->kind == KIND_TCP && rest_bytes(rest) && connection_receiver(rest->file, &receiver))
+	if (rest->kind == KIND_TCP && rest_bytes(rest) &&
+	    connection_receiver(rest->file, &receiver))
 		return send_counted(rest, &receiver);
 	next = next_bytes(rest, parts, SSIZE_MAX);
 	return REAL(sendmsg)(rest->file, &next, rest->flags | MSG_DONTWAIT);
 }
 
-/* Returns the error that a call of the kernel's finds when it has waited, or 0. Another call finds it, too,
- * except for AF_UNIX. */
+/* Returns the error that a call of the kernel's finds when it has waited, or 0. Another call finds
+ * it, too, except for AF_UNIX. */
 static int error_after_wait(const struct rest *rest)
 {
 	int error = 0;
@@ -184,8 +187,8 @@ static bool has_limit(int file)
 	return limit.tv_sec || limit.tv_usec;
 }
 
-/* Writes at this thread's turns. Returns false if the kernel's call is to be made: it doesn't wait, or it
- * isn't one for streams. */
+/* Writes at this thread's turns. Returns false if the kernel's call is to be made: it doesn't wait,
+ * or it isn't one for streams. */
 static bool write_at_turns(int file, const struct msghdr *message, int flags, const void *caller,
 			   ssize_t *result)
 {
@@ -229,8 +232,8 @@ static bool write_at_turns(int file, const struct msghdr *message, int flags, co
 WRITE(write, (int file, const void *bytes, size_t size), (file, bytes, size), 0, BYTES)
 WRITE(writev, (int file, const struct iovec *parts, int count), (file, parts, count), 0,
       { .msg_iov = (struct iovec *)parts, .msg_iovlen = (size_t)count })
-WRITE(send, (int file, const void *bytes, size_t size, int flags), (file, bytes, size, flags), flags,
-      BYTES)
+WRITE(send, (int file, const void *bytes, size_t size, int flags), (file, bytes, size, flags),
+      flags, BYTES)
 WRITE(sendto,
       (int file, const void *bytes, size_t size, int flags, const struct sockaddr *name,
        socklen_t length),

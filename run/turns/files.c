@@ -94,7 +94,8 @@ static int events_of(int file, short wanted)
 	return host_call(SYS_poll, (long)&now, 1, 0, 0, 0, 0) == 1 ? now.revents : 0;
 }
 
-/* A pipe that is empty takes as much as it has. Otherwise it may have space for one part of PIPE_BUF. */
+/* A pipe that is empty takes as much as it has. Otherwise it may have space for one part of
+ * PIPE_BUF. */
 static size_t pipe_room(int file)
 {
 	int unread = 1;

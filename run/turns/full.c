@@ -13,8 +13,8 @@ enum { FILES_MOST = 1 << 16, KNOWN_MOST = 1 << 12 };
 static _Atomic uint32_t times[FILES_MOST];
 static _Atomic bool is_noted;
 
-/* For epolls and files, the times that are known: the key is in the high bits. If another pair takes the
- * place, a file is reported once more. */
+/* For epolls and files, the times that are known: the key is in the high bits. If another pair
+ * takes the place, a file is reported once more. */
 static _Atomic uint64_t known[KNOWN_MOST];
 
 void full_note(int file, bool is_full)

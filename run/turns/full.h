@@ -7,13 +7,13 @@
 
 #include <signal.h>
 
-/* Waits until something is there, as a function says that looks, or for a span if there is one. Returns
- * 1, 0 after the span, or -1 with errno. */
+/* Waits until something is there, as a function says that looks, or for a span if there is one.
+ * Returns 1, 0 after the span, or -1 with errno. */
 int full_wait(bool (*is_there)(void *what), void *what, const struct timespec *span,
 	      const sigset_t *mask, const void *caller);
 
-/* Returns what such a call returns, by the result of its wait and by what it has found: the number of files,
- * or minus an error. */
+/* Returns what such a call returns, by the result of its wait and by what it has found: the number
+ * of files, or minus an error. */
 int full_result(int result, int found);
 
 /* Note whether a connection is full that this process has looked at. */

@@ -7,18 +7,18 @@
  *    the turn then, it parks: it takes an entry and waits for its state to become PARKED_GRANTED.
  * 2. The thread that has the turn runs until it waits for something, or until it has made
  *    `calls_left` calls: then it parks, too. The call in which it parks is the first one.
- *    It also parks after each signal that it sends, and after each call by which a file may become
- *    ready, if a thread waits for files in the kernel (is_waited): what that one finds when it wakes
- *    doesn't depend on the next call.
+ *    It also parks after each signal that it sends. If a thread waits for files in the kernel
+ *    (is_waited), it parks after each call by which a file may become ready: what the other one
+ *    finds when it wakes doesn't depend on the next call.
  * 3. When all threads wait, tkrun takes the turn from its holder, and grants it to one of those that
  *    are PARKED_READY, by the seed. If none is, time moves.
  * 4. A thread that waits for a lock is PARKED_BLOCKED. Whoever unlocks it makes it PARKED_READY.
  * 5. A thread that waits for a condition variable has an entry that is PARKED_WAITING. A signal makes
  *    the first of these entries, by their order, PARKED_SIGNALLED. Then the thread needs the turn.
- * 6. A thread that waits for space in a pipe or a connection is PARKED_LOOKS. When all threads wait,
- *    and one has had the turn or time has moved since it has looked, tkrun makes it PARKED_LOOKING: it
- *    looks whether there is space. If there is, it needs the turn. So there is space for it when the
- *    order of turns says so, whenever the kernel has moved bytes.
+ * 6. A thread that waits for space in a pipe or a connection is PARKED_LOOKS. When all threads
+ *    wait, and one has had the turn or time has moved since it has looked, tkrun makes it
+ *    PARKED_LOOKING: it looks whether there is space. If there is, it needs the turn. So there is
+ *    space for it when the order of turns says so, whenever the kernel has moved bytes.
  */
 #ifndef TABLE_H
 #define TABLE_H

@@ -1,6 +1,7 @@
 """--seed: what programs see of full and partly read pipes and connections (turn_flows.c)."""
 import errno
 import re
+import socket
 
 from links import ADDRESSES, PORT
 from runs import STILL, TKRUN, RunTest, call, host_call, program
@@ -13,9 +14,11 @@ SEEDS = 3
 # a thread has both ends, and knows what the other one has left to read
 MODEL = """import fcntl, random, select, socket, struct, sys, termios
 SPACE, chosen = {space}, random.Random({seed})
-listener = socket.create_server(("127.0.0.1", 0))
+server, client = {addresses}
+family = socket.AF_INET6 if ":" in server else socket.AF_INET
+listener = socket.create_server((server, 0), family=family)
 listener.setsockopt(socket.SOL_SOCKET, socket.SO_RCVBUF, 4096)
-out = socket.create_connection(listener.getsockname())
+out = socket.create_connection((client, listener.getsockname()[1]))
 out.setsockopt(socket.SOL_SOCKET, socket.SO_SNDBUF, 4096)
 into = listener.accept()[0]
 sizes = [s.getsockopt(socket.SOL_SOCKET, n) for s in (out, into)
@@ -88,10 +91,10 @@ class Flows(RunTest):
     def check_text(self, text, schedule, space, most):
         """What must hold for each seed. At most so much is written that nobody reads."""
         self.assertNotIn("wrong", text)
-        reads = [tuple(map(int, found)) for found in re.findall(r"read (-?\d+) (\d+), left (\d+)", text)]
-        writes = [tuple(map(int, found)) for found in re.findall(r"write (-?\d+) (\d+)", text)]
+        reads = [tuple(map(int, found))
+                 for found in re.findall(r"read (-?\d+) (\d+), left (\d+)", text)]
         self.assertTrue(all(left <= space for _, _, left in reads))
-        written = sum(size for size, _ in writes if size > 0)
+        written = sum(int(size) for size in re.findall(r"write (\d+)", text))
         read = sum(size for size, _, _ in reads)
         if schedule == "close_amid":
             self.assertTrue(300000 <= read <= written <= read + most, (read, written))
@@ -158,7 +161,10 @@ class Flows(RunTest):
                              same[same.index("unix\n"):])
 
     def test_each_call_against_a_model(self):
-        for seed in range(SEEDS):
-            code = MODEL.format(space=SPACE, seed=seed)
+        addresses = [("127.0.0.1", "127.0.0.1"), ("127.0.0.1", "::ffff:127.0.0.1")]
+        if socket.has_dualstack_ipv6():
+            addresses += [("::1", "::1")]
+        for seed, pair in enumerate(addresses):
+            code = MODEL.format(space=SPACE, seed=seed, addresses=pair)
             self.assertEqual(self.run_on(*STILL, "--seed", seed, "--", "python3", "-c", code),
                              "same\n")

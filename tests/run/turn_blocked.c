@@ -1,8 +1,8 @@
 /* SPDX-License-Identifier: MIT OR Apache-2.0 */
 /*
- * turn_blocked: threads that wait for space or bytes, and what ends that: a signal, a cancellation, the
- * time of poll and the like, and a file that is closed. Prints what each call has returned. The host
- * prints the same.
+ * turn_blocked: threads that wait for space or bytes, and what ends that: a signal, a cancellation,
+ * the time of poll and the like, and a file that is closed. Prints what each call has returned. The
+ * host prints the same.
  */
 #define _GNU_SOURCE
 #include <arpa/inet.h>

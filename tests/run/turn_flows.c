@@ -1,10 +1,11 @@
 /* SPDX-License-Identifier: MIT OR Apache-2.0 */
 /*
- * turn_flows LOG SCHEDULE KIND [ADDRESS PORT]: one thread writes to a pipe or connection, and another one
- * reads. They append to LOG what each call has returned, what is left to read, and what poll answers.
+ * turn_flows LOG SCHEDULE KIND [ADDRESS PORT]: one thread writes to a pipe or connection, and
+ * another one reads. They append to LOG what each call has returned, what is left to read, and what
+ * poll answers.
  *
- * KIND is pipe, unix or tcp, with both threads in this process, or reads or writes: then this process
- * listens at ADDRESS and reads, or connects to it and writes.
+ * KIND is pipe, unix or tcp, with both threads in this process, or reads or writes: then this
+ * process listens at ADDRESS and reads, or connects to it and writes.
  */
 #define _GNU_SOURCE
 #include <arpa/inet.h>
