@@ -8,9 +8,9 @@ Each client asks redis for the lock with `SET lock NAME NX PX 10000`, every 2 ms
 It holds the lock for 10 s by its clock, from the time at which it asked, so no delay of the network
 can harm. But the server's counter is 0.1 % too fast, and this error wanders, so the lock expires
 after 9.99 s or so. If the question of a and the answer to b are both quick, b gets the lock while a
-still holds it. A seed chooses the delay of each packet and the walk of the server's counter. The
-program prints the seeds with which that happens, and for how long both held the lock, by the true
-time. The same seed gives the same run.
+still holds it. The `--seed` of a run chooses the delay of each packet, the walk of the server's
+counter, and which process goes on first. The program prints the seeds with which that happens, and
+for how long both held the lock, by the true time. The same seed gives the same run.
 """
 import os
 import pathlib
@@ -60,10 +60,11 @@ def held_at_once(seed):
                "--protected-mode no --hz 1 >log & S=$!\n"
                f"sleep 1; {TKRUN} node a -- {hold_as} a >a & A=$!\n"
                f"sleep 9.8; {TKRUN} node b -- {hold_as} b >b & wait $A $!; kill $S; wait")
-    words = ["--node", f"server,address={network}.1,error-ppm=1000,wander-ppm=300,seed={seed}"]
+    words = ["--seed", str(seed),
+             "--node", f"server,address={network}.1,error-ppm=1000,wander-ppm=300"]
     for number, client in enumerate("ab", 2):
         words += ["--node", f"{client},address={network}.{number}",
-                  "--link", f"{client},server,delay=1ms,jitter=7ms,seed={seed}"]
+                  "--link", f"{client},server,delay=1ms,jitter=7ms"]
     with tempfile.TemporaryDirectory() as folder:
         subprocess.run([TKRUN, "--quiet", "--counter", "sleeps", "--start", "2030-01-01T00:00:00Z",
                         "--record", f"{folder}/record", *words, "--", "sh", "-c", session],

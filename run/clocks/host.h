@@ -71,6 +71,7 @@ enum clock_file {
 	FILE_ROWS, /* of the record */
 	FILE_LOG,
 	FILE_NET, /* a socket to tkrun, if there is a --link */
+	FILE_TURNS, /* the table of the turns, with --seed */
 	CLOCK_FILES
 };
 

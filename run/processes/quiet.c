@@ -3,6 +3,8 @@
 #define _GNU_SOURCE
 #include "tree.h"
 
+#include "backlog.h"
+
 #include <stdlib.h>
 
 /* Returns the first thread that doesn't wait, or NULL. */
@@ -120,7 +122,8 @@ bool tree_is_quiet(struct tree *tree)
 	if (running)
 		return false;
 	find_waits(tree);
-	is_quiet = scan_again(tree, &second) && is_unmoved(tree, &second) &&
+	/* what the threads have sent before they waited must arrive before they are looked at again */
+	is_quiet = backlog_is_empty() && scan_again(tree, &second) && is_unmoved(tree, &second) &&
 		   !tree_has_other_children(tree);
 	free(second.threads);
 	return is_quiet;

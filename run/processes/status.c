@@ -26,6 +26,20 @@ bool proc_read(const char *path, char *text, size_t size)
 	return length > 0;
 }
 
+uint64_t proc_ticks(int process)
+{
+	char path[64], text[1024];
+	uint64_t user = 0, system = 0;
+	const char *name_end;
+
+	snprintf(path, sizeof(path), "/proc/%d/stat", process);
+	name_end = proc_read(path, text, sizeof(text)) ? strrchr(text, ')') : NULL;
+	if (name_end)
+		sscanf(name_end, ") %*c %*d %*d %*d %*d %*d %*u %*u %*u %*u %*u %lu %lu", &user,
+		       &system);
+	return user + system;
+}
+
 char *proc_read_list(const char *path)
 {
 	FILE *file = fopen(path, "re");

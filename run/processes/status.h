@@ -23,6 +23,9 @@ char *proc_read_list(const char *path);
 bool is_tkrun_file(const char *path);
 bool proc_is_tkrun(int process);
 
+/* Returns the processor time of a process, in ticks. */
+uint64_t proc_ticks(int process);
+
 /* Reads the status of a thread or a process. Returns false if it is gone. */
 bool status_read(int thread, char text[STATUS_BYTES]);
 

@@ -41,7 +41,7 @@ static bool grow(void **list, size_t count, size_t *room, size_t size)
 static void find_call(struct thread_state *thread, const char *folder,
 		      char state)
 {
-	char path[128], text[256];
+	char path[128], text[256], *rest;
 
 	thread->call = -1;
 	snprintf(path, sizeof(path), "%s/syscall", folder);
@@ -50,8 +50,10 @@ static void find_call(struct thread_state *thread, const char *folder,
 	for (const char *at = text; *at; at++)
 		thread->place = thread->place * HASH + (unsigned char)*at;
 	thread->is_waiting = strncmp(text, "running", 7);
-	if (thread->is_waiting && (state == 'S' || state == 'D'))
-		thread->call = strtol(text, NULL, 10);
+	if (!thread->is_waiting || (state != 'S' && state != 'D'))
+		return;
+	thread->call = strtol(text, &rest, 10);
+	thread->first = strtoul(rest, NULL, 16);
 }
 
 /* A sleep that tkrun has to answer is in state D, as is a thread that waits for

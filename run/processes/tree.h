@@ -19,6 +19,7 @@ struct thread_state {
 	bool is_ended;
 	bool has_wake;	 /* its process handles WAKE_SIGNAL */
 	long call;	 /* the system call in which it waits, or -1 */
+	uint64_t first;	 /* its first argument */
 };
 
 /* A process, and the number of its ancestors up to tkrun. */

@@ -3,6 +3,7 @@
 #define _GNU_SOURCE
 #include "asker.h"
 #include "asker_memory.h"
+#include "random.h"
 #include "static.h"
 #include "clocks/log.h"
 #include "processes/coverage.h"
@@ -219,6 +220,8 @@ static int make_call(size_t node, const struct seccomp_notif *ask,
 		return steer(m, ask, "adjtimex", ask->data.args[0], value);
 	case SYS_clock_adjtime:
 		return steer_clock(m, ask, value);
+	case SYS_getrandom:
+		return random_answer(ask, node, value);
 	case CALL_FILE:
 		return files_give(listener, ask, node, value);
 	case CALL_ATTACHED:

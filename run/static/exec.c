@@ -4,6 +4,7 @@
  * call of execve until then.
  */
 #define _GNU_SOURCE
+#include "random.h"
 #include "stack.h"
 #include "static.h"
 #include "image/image.h"
@@ -49,6 +50,7 @@ static const char *replace_vdso(pid_t process)
 		return NULL;
 	if (registers.cs != CODE_64)
 		return "it isn't a program for x86-64";
+	random_give(process, registers.rsp);
 	place = stack_find_auxiliary(process, registers.rsp, AT_SYSINFO_EHDR);
 	if (place)
 		replace_at(process, place);

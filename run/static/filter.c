@@ -1,6 +1,7 @@
 /* SPDX-License-Identifier: MIT OR Apache-2.0 */
 /* filter.c - the filter of system calls. */
 #define _GNU_SOURCE
+#include "random.h"
 #include "static.h"
 
 #include <elf.h>
@@ -102,6 +103,8 @@ static size_t put_all(struct sock_filter *code)
 		at = put_asked(code, at, ASKED[i]);
 	for (size_t i = 0; i < sizeof(SLEEPS) / sizeof(*SLEEPS); i++)
 		at = put_unless_host(code, at, SLEEPS[i]);
+	if (random_is_seeded())
+		at = put_asked(code, at, SYS_getrandom);
 	code[at++] = (struct sock_filter)BPF_STMT(BPF_RET | BPF_K,
 						  SECCOMP_RET_ALLOW);
 	return at;
@@ -199,7 +202,8 @@ bool filter_asks(long call)
 		if (ASKED[i] == call)
 			return true;
 	}
-	return call == SYS_clock_gettime || filter_asks_sleep(call);
+	return call == SYS_clock_gettime || filter_asks_sleep(call) ||
+	       (call == SYS_getrandom && random_is_seeded());
 }
 
 bool filter_asks_sleep(long call)

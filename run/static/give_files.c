@@ -13,11 +13,16 @@
 #include <unistd.h>
 
 static int (*all_files)[CLOCK_FILES]; /* by the node */
-static int net_file = -1;
+static int net_file = -1, turns_file = -1;
 
 void files_offer_net(int file)
 {
 	net_file = file;
+}
+
+void files_offer_turns(int file)
+{
+	turns_file = file;
 }
 
 bool files_open(size_t node, const char *folder)
@@ -31,7 +36,7 @@ bool files_open(size_t node, const char *folder)
 	char page[PATH_MAX], commands[PATH_MAX];
 	const char *paths[CLOCK_FILES] = { page, page, commands,
 					   control->rows.path,
-					   control->log.path, "" };
+					   control->log.path, "", "" };
 	int *files;
 
 	if (!all_files)
@@ -47,6 +52,7 @@ bool files_open(size_t node, const char *folder)
 			return false;
 	}
 	files[FILE_NET] = net_file;
+	files[FILE_TURNS] = turns_file;
 	return true;
 }
 

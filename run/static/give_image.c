@@ -5,6 +5,7 @@
  * of the clocks, and memory for the image.
  */
 #define _GNU_SOURCE
+#include "random.h"
 #include "image/image.h"
 #include "image/symbols.h"
 #include "processes/status.h"
@@ -52,7 +53,8 @@ static void find_functions(const struct segment *segment)
 {
 	vdso.gettime = segment_function(segment, "__vdso_clock_gettime");
 	vdso.getcpu = segment_function(segment, "__vdso_getcpu");
-	vdso.getrandom = segment_function(segment, "__vdso_getrandom");
+	if (!random_is_seeded())
+		vdso.getrandom = segment_function(segment, "__vdso_getrandom");
 	vdso.sgx_enter_enclave =
 		segment_function(segment, "__vdso_sgx_enter_enclave");
 }

@@ -96,6 +96,9 @@ bool files_open(size_t node, const char *folder);
 /* Sets the socket that FILE_NET is, for all nodes. */
 void files_offer_net(int file);
 
+/* Sets the table that FILE_TURNS is, for all nodes. */
+void files_offer_turns(int file);
+
 /* Returns whether a thread is of the user who may command the clocks. */
 bool files_may_command(int thread);
 

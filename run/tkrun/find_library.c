@@ -8,7 +8,8 @@
 #include <string.h>
 #include <unistd.h>
 
-static const char LIBRARY[] = "libtkrun.so", NET_LIBRARY[] = "libtkrun-net.so";
+static const char LIBRARY[] = "libtkrun.so", NET_LIBRARY[] = "libtkrun-net.so",
+		  TURNS_LIBRARY[] = "libtkrun-turns.so";
 
 /* A library, which tools/build_run puts next to the folder of tkrun. */
 static void find_library(const char *name, char *path, size_t size)
@@ -32,19 +33,21 @@ static bool is_own(const char *path)
 {
 	const char *name = basename(path);
 
-	return !strcmp(name, LIBRARY) || !strcmp(name, NET_LIBRARY);
+	return !strcmp(name, LIBRARY) || !strcmp(name, NET_LIBRARY) ||
+	       !strcmp(name, TURNS_LIBRARY);
 }
 
 /* Puts the libraries in front of LD_PRELOAD, without those of a tkrun outside. */
-static void set_preload(const char *library, const char *net)
+static void set_preload(const char *turns, const char *library, const char *net)
 {
 	const char *others = getenv("LD_PRELOAD");
 	char *copy = strdup(others ? others : ""), *end, *name;
-	char *list = malloc(strlen(library) + strlen(net) + strlen(copy ? copy : "") + 3);
+	char *list = malloc(strlen(turns) + strlen(library) + strlen(net) +
+			    strlen(copy ? copy : "") + 4);
 
 	if (!copy || !list)
 		fail(STATUS_FAILED, "out of memory");
-	end = stpcpy(list, library);
+	end = list + sprintf(list, "%s%s%s", turns, *turns ? ":" : "", library);
 	if (*net)
 		end += sprintf(end, ":%s", net);
 	for (name = strtok(copy, " :"); name; name = strtok(NULL, " :")) {
@@ -57,12 +60,14 @@ static void set_preload(const char *library, const char *net)
 	free(copy);
 }
 
-void preload_library(bool has_net)
+void preload_library(bool has_net, bool has_turns)
 {
-	char library[PATH_MAX], net[PATH_MAX] = "";
+	char library[PATH_MAX], net[PATH_MAX] = "", turns[PATH_MAX] = "";
 
 	find_library(LIBRARY, library, sizeof(library));
 	if (has_net)
 		find_library(NET_LIBRARY, net, sizeof(net));
-	set_preload(library, net);
+	if (has_turns)
+		find_library(TURNS_LIBRARY, turns, sizeof(turns));
+	set_preload(turns, library, net);
 }

@@ -2,6 +2,7 @@
 /* link_options.c - parses --link NODE,NODE[,OPTION=VALUE].. and the addresses of nodes. */
 #define _GNU_SOURCE
 #include "options.h"
+#include "seeds.h"
 #include "net/relays.h"
 
 #include <arpa/inet.h>
@@ -87,6 +88,7 @@ static void parse_word(struct link_options *link, char *word, const char *words)
 			fail(STATUS_WRONG, "--link %s: %s '%s' isn't %s", words, word,
 			     text ? text : "", KINDS[i].text);
 		set_value(link, &KINDS[i], value);
+		link->has_seed |= !strcmp(word, "seed");
 		return;
 	}
 	fail(STATUS_WRONG, "--link %s: '%s' is no option of a link", words, word);
@@ -120,6 +122,8 @@ static void parse_link(const struct options *options, const char *words,
 		fail(STATUS_WRONG, "--link %s: a node has no link to itself", words);
 	while ((word = strsep(&rest, ",")))
 		parse_word(link, word, words);
+	if (!link->has_seed && options->has_seed)
+		link->seed = seed_for(options->seed, SEED_LINKS);
 	free(copy);
 }
 

@@ -1,6 +1,7 @@
 /* SPDX-License-Identifier: MIT OR Apache-2.0 */
 /* move_counter.c - moves a counter of sleeps, and wakes the threads whose time has come. */
 #define _GNU_SOURCE
+#include "grant.h"
 #include "idle.h"
 #include "moving.h"
 #include "net.h"
@@ -60,7 +61,7 @@ static bool has_reached(struct node *node)
 		int32_t thread = abs(owner_thread(owner));
 
 		if (!thread || waiter_left(node, waiter, owner) ||
-		    idle_is_left_alone(node, i, owner))
+		    turns_has_ready(thread) || idle_is_left_alone(node, i, owner))
 			continue;
 		if (idle_is_fresh(node, i, owner))
 			return true;
@@ -265,13 +266,22 @@ bool move_counter(struct run *run)
 	uint64_t common;
 
 	run->tree.has_filter = run->listener >= 0;
-	if (!all_wait(run))
-		return follow_spin(run);
-	if (run->count > 1 && (control_serve(run) || net_serve(run->elapsed)))
+	if (!all_wait(run)) {
+		turns_watch(run);
+		return !turns_are_on() && follow_spin(run);
+	}
+	if (turns_are_on() && follow_reads(run))
+		return true;
+	if (turns_grant(run))
 		return false;
+	if (run->count > 1 && (control_serve(run) || net_serve(run->elapsed))) {
+		turns_note_change();
+		return false;
+	}
 	if (follow_reads(run))
 		return true;
 	common = pass_steps(run);
+	turns_note_move(common != NEVER);
 	if (common == NEVER)
 		return false;
 	move_and_wake(run, common);

@@ -3,6 +3,9 @@
 #define _GNU_SOURCE
 #include "net_streams.h"
 
+#include "clocks/connection.h"
+#include "grant.h"
+
 #include <errno.h>
 #include <stdlib.h>
 #include <string.h>
@@ -40,6 +43,25 @@ static void reset(struct half *half)
 	close_stream(half->stream);
 }
 
+/* Sends some bytes. With --seed the receiver has room for as many as its reads leave, and not for
+ * as many as the kernel takes now. Returns how many, or -1. */
+static ssize_t send_some(int file, const char *bytes, size_t size)
+{
+	struct receiver receiver;
+	bool is_counted = turns_are_on() && connection_receiver(file, &receiver);
+	size_t room = is_counted ? connection_room(&receiver) : size;
+	ssize_t sent;
+
+	if (!room) {
+		errno = EAGAIN;
+		return -1;
+	}
+	sent = send(file, bytes, size < room ? size : room, MSG_NOSIGNAL | MSG_DONTWAIT);
+	if (sent > 0 && is_counted)
+		connection_settle(file, &receiver, (size_t)sent);
+	return sent;
+}
+
 /* Sends bytes. Returns false if the receiver has no room. If it is gone, they are dropped, and the
  * sender finds its connection reset. */
 static bool send_bytes(struct segment *segment, uint64_t now)
@@ -47,8 +69,8 @@ static bool send_bytes(struct segment *segment, uint64_t now)
 	struct half *half = segment->half;
 
 	while (segment->sent < segment->length) {
-		ssize_t sent = send(half->to, segment->bytes + segment->sent,
-				    segment->length - segment->sent, MSG_NOSIGNAL | MSG_DONTWAIT);
+		ssize_t sent = send_some(half->to, segment->bytes + segment->sent,
+					 segment->length - segment->sent);
 
 		if (sent < 0 && errno == EAGAIN)
 			return false;

@@ -3,6 +3,9 @@
 #define _GNU_SOURCE
 #include "net.h"
 
+#include "clocks/connection.h"
+#include "grant.h"
+
 #include <errno.h>
 #include <netinet/tcp.h>
 #include <poll.h>
@@ -20,7 +23,7 @@ struct opening {
 int net_make_socket(void)
 {
 	int file = socket(AF_INET, SOCK_STREAM | SOCK_CLOEXEC | SOCK_NONBLOCK, 0);
-	int one = 1, bytes = RECEIVE_BYTES;
+	int one = 1, bytes = turns_are_on() ? CONNECTION_RECEIVE_BYTES : RECEIVE_BYTES;
 
 	setsockopt(file, SOL_SOCKET, SO_REUSEADDR, &one, sizeof(one));
 	setsockopt(file, SOL_SOCKET, SO_REUSEPORT, &one, sizeof(one));

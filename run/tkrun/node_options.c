@@ -2,6 +2,7 @@
 /* node_options.c - parses --node NAME[,OPTION=VALUE].. */
 #define _GNU_SOURCE
 #include "options.h"
+#include "seeds.h"
 
 #include <ctype.h>
 #include <stdio.h>
@@ -53,6 +54,7 @@ bool parse_node_option(struct options *options, const char *name, const char *va
 		options->seed = whole(name, value, 0, UINT64_MAX);
 	else
 		return false;
+	options->has_seed |= !strcmp(name, "seed");
 	return true;
 }
 
@@ -91,6 +93,8 @@ static struct options common_options(const struct options *all)
 	node.ahead = 0;
 	node.read_step_count = 0;
 	node.script = NULL;
+	node.seed = all->has_seed ? seed_for(all->seed, SEED_WALKS) : 0;
+	node.has_seed = false;
 	return node;
 }
 

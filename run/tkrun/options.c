@@ -231,6 +231,8 @@ void compare_options(const struct options *o)
 		fail(STATUS_WRONG, "--readers needs --record");
 	if (o->read_cost && o->counter != COUNTER_SLEEPS)
 		fail(STATUS_WRONG, "--read-cost needs --counter sleeps");
+	if (o->has_seed && !o->name && o->counter != COUNTER_SLEEPS)
+		fail(STATUS_WRONG, "--seed needs --counter sleeps");
 	if (o->plan && !o->node_count && !o->name)
 		fail(STATUS_WRONG, "--plan needs --node");
 	if (o->counter == COUNTER_SLEEPS && !o->name &&
@@ -258,6 +260,7 @@ void parse_options(int count, char **words, struct options *options)
 		{ "read-cost", 1, 0, 0 },
 		{ "step-after-reads", 1, 0, 0 },
 		{ "link", 1, 0, 0 },
+		{ "seed", 1, 0, 0 },
 		{ 0, 0, 0, 0 },
 	};
 	int letter, index;

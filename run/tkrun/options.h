@@ -35,6 +35,7 @@ struct link_options {
 	uint64_t rate;		/* bits per second, or 0 for any */
 	uint64_t queue;		/* the bytes that may wait for the rate */
 	uint64_t seed;
+	bool has_seed;
 };
 
 struct options {
@@ -63,7 +64,8 @@ struct options {
 	char **program;
 	const char *name; /* of a node, or NULL */
 	double wander_ppm; /* of a node */
-	uint64_t seed;
+	uint64_t seed;	   /* of the run, or of a node's walk */
+	bool has_seed;
 	const char *node_words[NODES_MOST];
 	size_t node_count;
 	struct options *nodes;

@@ -7,10 +7,14 @@
  * loaded, and brings the clocks forward until no process is left.
  */
 #define _GNU_SOURCE
+#include "grant.h"
 #include "net.h"
+#include "seeds.h"
+#include "space.h"
 #include "processes/coverage.h"
 #include "processes/uncovered.h"
 #include "record/merge.h"
+#include "static/random.h"
 
 #include <errno.h>
 #include <fcntl.h>
@@ -202,6 +206,7 @@ static void look_at_reads(const struct node *node)
 static void remove_all(void)
 {
 	net_remove(the_run.nodes->folder);
+	turns_remove(the_run.nodes->folder);
 	for (size_t i = the_run.count; i-- > 0;)
 		remove_files(&the_run.nodes[i]);
 }
@@ -225,6 +230,7 @@ static void open_all(struct run *run)
 	if (run->count > 1)
 		control_open(run);
 	net_open(run);
+	turns_open(run);
 	act_all_due(run);
 }
 
@@ -235,6 +241,15 @@ static void print_end(const struct run *run)
 	print_faults(run);
 	for (size_t i = 0; i < run->count; i++)
 		print_log(&run->nodes[i]);
+}
+
+/* Lets numbers, addresses and random bytes of processes be the same in each run. */
+static void start_seed(const struct options *options)
+{
+	bool has_numbers = space_enter();
+
+	space_fix_addresses();
+	random_start(seed_for(options->seed, SEED_BYTES), has_numbers);
 }
 
 int main(int count, char **words)
@@ -252,11 +267,13 @@ int main(int count, char **words)
 	if (options->is_lax)
 		uncovered_allow();
 	find_host_clock(run);
-	preload_library(options->link_count);
+	preload_library(options->link_count, options->has_seed);
 	if (options->is_checked)
 		find_tkcore();
 	if (options->log)
 		start_log(options);
+	if (options->has_seed)
+		start_seed(options);
 	signals_block(&signals);
 	atexit(remove_all);
 	open_all(run);

@@ -110,9 +110,9 @@ const char *find_run(void);
  * Returns if these aren't its arguments. */
 void enter_node(int count, char **words);
 
-/* Finds the library, and that of the network, and puts them in front of LD_PRELOAD. Ends tkrun if
- * they can't be preloaded. */
-void preload_library(bool has_net);
+/* Finds the library, and those of the network and of the turns, and puts them in front of LD_PRELOAD.
+ * Ends tkrun if they can't be preloaded. */
+void preload_library(bool has_net, bool has_turns);
 
 /* Starts the program. If it can't be run, ends tkrun as env(1) ends. */
 void start_program(struct run *run);

@@ -37,6 +37,8 @@ static const char USAGE[] =
 	"                            programs there\n"
 	"  --link NODE,NODE[,OPTION=VALUE]..\n"
 	"                            a network between two nodes\n"
+	"  --seed N                  the same run for the same N: one thread at a time, and random\n"
+	"                            numbers by N; needs --counter sleeps\n"
 	"  --plan FILE               what happens to nodes: lines `at SEC NODE COMMAND [VALUE]`\n"
 	"  --lax                     a program on the host's clocks doesn't end the run\n"
 	"  --static                  starts nothing if tkrun can't answer system calls\n"

@@ -31,20 +31,21 @@ class Sentinel(unittest.TestCase):
 class RedisLock(unittest.TestCase):
     @needs("redis-server")
     def test_a_seed_finds_it_and_finds_it_again(self):
-        found = run("redis_lock.py", "1-2")
+        found = run("redis_lock.py", "13-14")
         self.assertEqual((0, [], 1), (found[0], found[2], len(found[1])))
-        self.assertRegex(found[1][0], r"^seed 2: both held the lock for [1-9]\.[0-9]{3} ms$")
-        self.assertEqual(found, run("redis_lock.py", "2"))
+        self.assertRegex(found[1][0], r"^seed 14: both held the lock for [0-9]\.[0-9]{3} ms$")
+        self.assertEqual(found, run("redis_lock.py", "14"))
 
     @needs("redis-server")
-    def test_a_seed_is_that_of_both_links_and_of_the_walk(self):
+    def test_a_seed_is_that_of_the_run(self):
         with tempfile.TemporaryDirectory() as folder:
             words, program = pathlib.Path(folder, "words"), pathlib.Path(folder, "tkrun")
             program.write_text(f'#!/bin/sh\necho "$@" >{words}\nexit 1\n')
             program.chmod(0o755)
             subprocess.run([EXAMPLES / "redis_lock.py", "7"], capture_output=True, check=False,
                            env={**os.environ, "TKRUN_PROGRAM": str(program)})
-            self.assertEqual(3, words.read_text().count("seed=7"))
+            self.assertEqual((1, 0), (words.read_text().count("--seed 7"),
+                                      words.read_text().count("seed=")))
 
     def test_wrong_words(self):
         usage = "usage: examples/cluster/redis_lock.py [SEEDS]     such as 7 or 7-20"

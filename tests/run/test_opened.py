@@ -26,7 +26,7 @@ BY_TKRUN = {
     "/proc//task": "the threads of a process", "/proc//task//children": "its children",
     "/proc//task//status": "whether a thread waits", "/proc//task//syscall": "for what",
     "/proc//status": "whose a thread is", "/proc//stat": "which program a process runs",
-    "/proc//comm": "its name",
+    "/proc//comm": "its name", "/proc//net/softnet_stat": "packets that haven't arrived",
 }
 CLOCKS = {"page", "control", "record.rows", "log"}
 

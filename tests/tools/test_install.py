@@ -11,7 +11,8 @@ PLOT = ["bin/tkcore-plot", *(f"share/tkcore/plot_parts/{it}.py"
                              for it in ("panels", "records", "tables"))]
 PROGRAM = ["bin/tkcore", "share/man/man1/tkcore.1", *PLOT,
            *(it.format("tkcore") for it in COMPLETION)]
-RUN_BUILT = ["bin/tkrun", "lib/libtkrun-net.so", "lib/libtkrun.so", "share/man/man1/tkrun.1"]
+RUN_BUILT = ["bin/tkrun", "lib/libtkrun-net.so", "lib/libtkrun-turns.so", "lib/libtkrun.so",
+             "share/man/man1/tkrun.1"]
 RUN = [*RUN_BUILT, "share/doc/tkcore/RUN.md", *(it.format("tkrun") for it in COMPLETION)]
 
 
