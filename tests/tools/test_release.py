@@ -110,6 +110,11 @@ class Release(Case):
             self.assertEqual([], sorted(it for it in named if not it.startswith(("tkc_", "cst"))
                                         and it.partition("::")[0] not in crates))
 
+    def test_the_texts_of_the_library_are_small(self):
+        sizes = [path.stat().st_size for path in TOP.glob("release/*/tkcore.s")]
+        self.assertEqual(2, len(sizes))
+        self.assertLess(sum(sizes), 500_000)
+
     def test_the_manifest_lists_the_texts_of_the_tree(self):
         parts = manifest.read(TOP / "release")
         lines = {line for part in parts.values() for line in part}

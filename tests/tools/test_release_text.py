@@ -1,4 +1,5 @@
 """The assembler text of an object file: gas makes the same object of it, and of no other text."""
+import re
 import shutil
 import subprocess
 import sys
@@ -72,10 +73,33 @@ class ReleaseText(Case):
     def test_the_text_names_what_its_code_refers_to(self):
         self.compile(SOURCE, "gcc")
         said = self.written()
-        self.assertRegex(said, r"\tcall +other\n")
-        self.assertRegex(said, r"\tj\w+ +\.Lchosen_[0-9a-f]+\n")
+        self.assertIn("\tcall other\n", said)
+        self.assertRegex(said, r"\tj\w+ \.Lchosen_[0-9a-f]+\n")
         self.assertRegex(said, r"\t\.quad other\n")
         self.assertNotIn(".byte 0xe8", said)
+
+    def loops(self, *names):
+        """Returns the labels in the text of sections of these names, each with a loop."""
+        source = self.room / "loops.s"
+        source.write_text("".join(f'.section "{name}","ax",@progbits\ns{at}: nop\n1: jmp 1b\n'
+                                  for at, name in enumerate(names)), encoding="utf-8")
+        subprocess.run(["as", source, "-o", self.object], check=True)
+        said = self.written()
+        self.assertEqual((0, "", ""), self.release_text("--compare", self.object, self.text))
+        found = re.findall(r"^(.*):\n\tjmp (.*)$", said, re.M)
+        self.assertEqual([one for one, _ in found], [other for _, other in found])
+        return [one for one, _ in found]
+
+    def test_labels_are_as_short_as_they_can_be(self):
+        self.assertEqual([".Lf_1"], self.loops(".text.f"))
+        self.assertEqual([".L_1"], self.loops(".text"))
+        self.assertEqual([".Lone_1", ".LClock.get_1", ".LPage.get_1"], self.loops(
+            ".text.c::Clock::one::<#1f>", ".text.unlikely.c::Clock::get", ".text.c::Page::get::<#2>"))
+        self.assertEqual([".Lf_1", ".Lx.c.f_1", ".La.c.f_1"],
+                         self.loops(".text.f", ".text.x::c::f", ".text.a::c::f"))
+        # (these differ in brackets only)
+        self.assertEqual(['".Lc::f::<#1>_1"', '".Lc::f::<#2>_1"'],
+                         self.loops(".text.c::f::<#1>", ".text.c::f::<#2>"))
 
     def test_another_text_is_refused(self):
         self.compile(SOURCE, "gcc")
@@ -100,8 +124,8 @@ class ReleaseText(Case):
                           ".byte 0x8b, 0xc1\nret\n", encoding="utf-8")
         subprocess.run(["as", source, "-o", self.object], check=True)
         said = self.written()
-        self.assertIn("\t/* add    $0x1,%rax */\n\t.byte 0x48, 0x81, 0xc0, 0x01", said)
-        self.assertIn("\t{load} mov    %ecx,%eax\n\tret\n", said)
+        self.assertIn("\t/* add $0x1,%rax */\n\t.byte 0x48, 0x81, 0xc0, 0x01", said)
+        self.assertIn("\t{load} mov %ecx,%eax\n\tret\n", said)
 
     def test_branches_that_keep_each_other_long_stay_long(self):
         source = self.room / "long.s"

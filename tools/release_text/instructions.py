@@ -22,6 +22,11 @@ ERROR = re.compile(r":(\d+): Error")
 Instruction = namedtuple("Instruction", "section at end text target shown")
 
 
+def plain(text):
+    """Returns an instruction without objdump's comment, with one space for more."""
+    return re.sub(r" +", " ", re.sub(r"\s+(#|//) .*$", "", text.strip()))
+
+
 def assembled(machine, lines, folder):
     """Assembles lines. Returns the object, or the numbers of the lines that gas refuses."""
     source, made = Path(folder, "tried.s"), Path(folder, "tried.o")
@@ -57,8 +62,7 @@ class Code:
         for part in ran.stdout.split("Disassembly of section ")[1:]:
             head, _, body = part.partition(":\n")
             found = [LINE.match(line) for line in body.splitlines()]
-            yield head, [(int(it[1], 16), re.sub(r"\s+(#|//) .*$", "", it[2].strip()))
-                         for it in found if it]
+            yield head, [(int(it[1], 16), plain(it[2])) for it in found if it]
 
     def instruction(self, section, at, end, text):
         here = [it for it in self.found.relocations.get(section.index, []) if at <= it.offset < end]

@@ -1,7 +1,7 @@
 # SPDX-License-Identifier: MIT OR Apache-2.0
 """Writes an object file as assembler text: each section with its symbols, instructions and data."""
 import re
-from collections import defaultdict
+from collections import Counter, defaultdict
 
 import elf
 import machines
@@ -23,6 +23,21 @@ def quoted(name):
     return name if re.fullmatch(r"[\w.$]+", name) else f'"{name}"'
 
 
+def short_names(names):
+    """Returns a short name for each section's name: the last words of its function's path that no
+    other path ends with, or all of it."""
+    whole = {name: name.removeprefix(".text").lstrip(".") for name in names}
+    paths = {name: re.findall(r"[A-Za-z_]\w*", re.sub(r"<[^:]*>", "", it))
+             for name, it in whole.items()}
+    found = {}
+    for count in range(1, max(map(len, paths.values()), default=0) + 1):
+        ends = {name: ".".join(path[-count:]) for name, path in paths.items()}
+        often = Counter(ends.values())
+        found.update((name, end) for name, end in ends.items()
+                     if name not in found and often[end] == 1 and len(paths[name]) >= count)
+    return {**whole, **found}
+
+
 class Writer:
     """The lines of an object file's text."""
 
@@ -33,6 +48,7 @@ class Writer:
         for symbol in self.found.named():
             self.named[symbol.section, symbol.value].append(symbol)
         self.code = Code(path, self.found, self.reference)
+        self.short = short_names([it.name for it in self.found.kept if it.flags & elf.EXECUTE])
 
     def reference(self, symbol, addend):
         """Returns a relocation's symbol and addend; of a section, a local symbol at the place."""
@@ -92,10 +108,9 @@ class Writer:
 
     def labels(self, section):
         """Returns the label of each place that a branch of the section leads to."""
-        name = section.name.removeprefix(".text").lstrip(".")
         targets = {it.target for it in self.code.listed.get(section.index, ())
                    if it.target is not None and (section.index, it.at) in self.code.texts}
-        return {at: quoted(f".L{name}_{at:x}") for at in targets}
+        return {at: quoted(f".L{self.short.get(section.name, '')}_{at:x}") for at in targets}
 
     def symbol(self, symbol):
         name = quoted(symbol.name)
