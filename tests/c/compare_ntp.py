@@ -150,8 +150,8 @@ class Session:
 class Records:
     """Random records about the clocks of a session. Requests are those of ntp.py."""
 
-    def __init__(self, seed, session):
-        self.random, self.session = random.Random(seed), session
+    def __init__(self, seed, session, have_signals):
+        self.random, self.session, self.have_signals = random.Random(seed), session, have_signals
         self.requests, self.following = ntp.Orders(seed + 1), []
 
     def next(self):
@@ -163,7 +163,7 @@ class Records:
                 return self.opening()
             self.following = self.late_leap()
             return self.following.pop(0)
-        if pick == 2 and not self.session.steered.signal:
+        if pick == 2 and self.have_signals and not self.session.steered.signal:
             return "signal"
         if self.session.steered.signal and self.random.randrange(4) == 0:
             return self.pulse()
@@ -309,10 +309,11 @@ class Records:
         return f"apply,{self.reading()},{command},{max(-2**63, min(2**63 - 1, number))},{nsec}"
 
 
-def records_of(seed, count, met=None):
-    """Returns random records and their answers, and counts what they meet."""
+def records_of(seed, count, met=None, have_signals=True):
+    """Returns random records and their answers, and counts what they meet. The packages have no
+    signals."""
     session = Session()
-    records = Records(seed, session)
+    records = Records(seed, session, have_signals)
     given = []
     for _ in range(count):
         record = records.next()

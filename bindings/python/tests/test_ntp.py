@@ -127,8 +127,8 @@ class Worked(unittest.TestCase):
 
 class Model(unittest.TestCase):
     def test_random_records(self):
-        session, records = Session(), compare_ntp.records_of(seeded().randrange(2**32), CALLS // 4)
-        for record, wanted in records:
+        session, seed = Session(), seeded().randrange(2**32)
+        for record, wanted in compare_ntp.records_of(seed, CALLS // 4, have_signals=False):
             found = session.answer(record)
             if session.clock is not None:
                 found = ",".join(map(str, [found, *session.clock.save()]))
