@@ -107,7 +107,7 @@ class Figures(unittest.TestCase):
 
     def test_calls_with_sse_registers_are_those_of_the_header(self):
         steered = [f"`tkc_ntp_{it}`" for it in ("open", "open_at", "advance", "advance_late", "apply",
-                                                "tick", "save")]
+                                                "change_counter", "pulse", "tick", "save")]
         listed = f"`tkc_snapshot_convert`, {', '.join(steered)},\n`tkc_adjtimex` and `tkc_ntp_load`"
         self.assertEqual([], self.sse(f"Only these use SSE registers:\n  {listed} (`sse_calls`)."))
         self.assertEqual([], self.sse(f"| SSE | in most calls | only in {listed} |"))
@@ -118,11 +118,11 @@ class Figures(unittest.TestCase):
             self.assertEqual([f"{fault}tkc_ntp_leap"], self.sse(form.format(f"`tkc_ntp_leap`, {listed}")))
 
     def test_the_number_of_these_calls_is_the_headers(self):
-        self.assertEqual([], self.sse("All calls except ten may then be made in any context."))
-        self.assertEqual([], self.sse("Nine calls on steered clocks\nuse SSE registers."))
+        self.assertEqual([], self.sse("All calls except twelve may then be made in any context."))
+        self.assertEqual([], self.sse("Eleven calls on steered clocks\nuse SSE registers."))
         self.assertEqual(["a.md: All calls except eight may then be made in any context, "
-                          "but include/tkcore.h lists 10"],
+                          "but include/tkcore.h lists 12"],
                          self.sse("All calls except eight may then be\nmade in any context."))
         self.assertEqual(["a.md: seven calls on steered clocks use SSE registers, "
-                          "but include/tkcore.h lists 9"],
+                          "but include/tkcore.h lists 11"],
                          self.sse("and seven calls on steered clocks use SSE registers"))
