@@ -34,7 +34,7 @@ def short_names(names):
         ends = {name: ".".join(path[-count:]) for name, path in paths.items()}
         often = Counter(ends.values())
         found.update((name, end) for name, end in ends.items()
-                     if name not in found and often[end] == 1 and len(paths[name]) >= count)
+                     if name not in found and often[end] == 1)
     return {**whole, **found}
 
 
