@@ -1,8 +1,8 @@
 /* SPDX-License-Identifier: MIT OR Apache-2.0 */
 /*
  * Reads a page of include/tkcore_page.h in three threads while a fourth changes the frequency and
- * the tick between their limits, over the TSC. Neither the front nor MONOTONIC may go back for any
- * reader. A fifth thread reads a latch, whose front may not go back.
+ * the tick between their limits, over the TSC, or on AArch64 over CNTVCT_EL0. Neither the front nor
+ * MONOTONIC may go back for any reader. A fifth thread reads a latch, whose front may not go back.
  *
  *     page_tsc SECONDS
  *
@@ -15,9 +15,11 @@
 #include <stdio.h>
 #include <stdlib.h>
 #include <tkcore_page.h>
+#ifdef __x86_64__
 #include <x86intrin.h>
+#endif
 
-enum { READERS = 3, STEPS = 6, PAUSE = 12000 /* cycles */ };
+enum { READERS = 3, STEPS = 6, PAUSES = 208333 /* of the writer in a second, at most */ };
 
 struct machine {
 	struct tkc_page page;
@@ -37,6 +39,22 @@ struct reader {
 	const char *wrong;
 };
 
+#ifdef __aarch64__
+#define COUNTER "CNTVCT_EL0"
+#define read_counter tkc_cntvct_for_reader
+#define read_to_write tkc_cntvct_for_writer
+
+static uint64_t cycles_in_a_second(void)
+{
+	uint64_t hz;
+
+	__asm__("mrs %0, cntfrq_el0" : "=r"(hz));
+	return hz;
+}
+#else
+#define COUNTER "the TSC"
+#define read_to_write read_counter
+
 static uint64_t read_counter(void *context)
 {
 	uint64_t reading;
@@ -48,11 +66,17 @@ static uint64_t read_counter(void *context)
 	return reading;
 }
 
+static uint64_t cycles_in_a_second(void)
+{
+	return 2500000000; /* about */
+}
+#endif
+
 static void pause_writer(void)
 {
-	uint64_t start = __rdtsc();
+	uint64_t start = read_counter(NULL), cycles = cycles_in_a_second() / PAUSES;
 
-	while (__rdtsc() - start < PAUSE)
+	while (read_counter(NULL) - start < cycles)
 		;
 }
 
@@ -75,11 +99,11 @@ static uint32_t command(struct machine *machine, int step)
 	uint32_t code;
 
 #ifdef READING_FIRST
-	reading = read_counter(NULL);
+	reading = read_to_write(NULL);
 	tkc_page_begin(&machine->page);
 #else
 	tkc_page_begin(&machine->page);
-	reading = read_counter(NULL);
+	reading = read_to_write(NULL);
 #endif
 	code = tkc_clock_apply(&machine->clock, reading, steps[step].command, steps[step].number,
 			       0);
@@ -91,11 +115,11 @@ static uint32_t command(struct machine *machine, int step)
 
 static uint32_t write_all(struct machine *machine, uint64_t cycles)
 {
-	uint64_t start = __rdtsc();
+	uint64_t start = read_counter(NULL);
 	uint32_t code = TKC_OK;
 	int step = 0;
 
-	while (!code && __rdtsc() - start < cycles) {
+	while (!code && read_counter(NULL) - start < cycles) {
 		code = command(machine, step);
 		step = (step + 1) % STEPS;
 		pause_writer();
@@ -237,12 +261,12 @@ int main(int argc, char **argv)
 		return EXIT_FAILURE;
 	}
 	start_readers(readers, &machine);
-	code = write_all(&machine, seconds * 2500000000U);
+	code = write_all(&machine, seconds * cycles_in_a_second());
 	faults = join_readers(readers);
 	if (code)
 		fprintf(stderr, "page_tsc: a command got code %" PRIu32 "\n", code);
 	if (code || faults)
 		return EXIT_FAILURE;
-	printf("page_tsc: over the TSC, neither front nor MONOTONIC went back\n");
+	printf("page_tsc: over " COUNTER ", neither front nor MONOTONIC went back\n");
 	return EXIT_SUCCESS;
 }
