@@ -72,19 +72,25 @@ class Session:
         self.steered.advance(reading)
         return "ok"
 
-    def late(self, reading):
-        following, tai = self.steered.next, self.steered.clock.tai
+    def begin_late(self, reading):
+        """Lets seconds begin late. Returns how many began, and how many of them were inserted.
+
+        A leap moves REALTIME. At a limit of the TAI offset it leaves that as it is.
+        """
+        following, offset = self.steered.next, self.steered.clock.real_offset
         self.steered.advance_late(reading)
-        leap = self.steered.clock.tai - tai
-        self.began_late = self.steered.next - following + leap, leap
+        inserted = (offset - self.steered.clock.real_offset) // 10**9
+        return self.steered.next - following + inserted, inserted
+
+    def late(self, reading):
+        self.began_late = self.begin_late(reading)
         return "ok"
 
     def tick(self, reading):
-        following, tai, mult = self.steered.next, self.steered.clock.tai, self.steered.clock.mult()
-        self.steered.advance_late(reading)
+        mult = self.steered.clock.mult()
+        seconds, inserted = self.begin_late(reading)
         self.steered.apply(reading, "update", 0, 0)
-        leap = self.steered.clock.tai - tai
-        changed = (self.steered.next - following + leap > 0, leap != 0, self.steered.clock.mult() != mult)
+        changed = seconds > 0, inserted != 0, self.steered.clock.mult() != mult
         return f"tick,{sum(2**bit for bit, is_so in enumerate(changed) if is_so)}"
 
     def counter(self, reading, bits, mult, shift, first):
@@ -263,7 +269,8 @@ class Records:
 
     def late_leap(self):
         """Clocks that open before midnight, and whose leap second begins late."""
-        status, tai = self.random.choice([ntp.STA_INS, ntp.STA_DEL]), self.random.randrange(100_001)
+        status = self.random.choice([ntp.STA_INS, ntp.STA_DEL])
+        tai = self.random.choice([0, 100_000, self.random.randrange(100_001)])
         first, second = (self.random.randrange(10**9) for _ in range(2))
         return [f"open,64,8388608,23,0,{DAY_END - 3},0,{self.random.choice([100, 250, 1000])}",
                 self.request(0, ntp_bounds.fields(ntp.STATUS | ntp.TAI, status=status, constant=tai)),
