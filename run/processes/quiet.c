@@ -70,7 +70,8 @@ static bool goes_on(const struct thread_state *before, const struct thread_state
 }
 
 /* Returns whether both scans found the same threads, all waiting, and none of
- * them has run in between, or only to go on with its wait. */
+ * them has run in between, or only to go on with its wait. One that has just ended
+ * has not been counted as switched yet. */
 static bool is_unmoved(const struct tree *first, const struct tree *second)
 {
 	if (first->count != second->count || find_running(second))
@@ -79,7 +80,8 @@ static bool is_unmoved(const struct tree *first, const struct tree *second)
 		const struct thread_state *before = &first->threads[i];
 		const struct thread_state *after = &second->threads[i];
 
-		if (before->switches != after->switches && !goes_on(before, after))
+		if (before->is_ended != after->is_ended ||
+		    (before->switches != after->switches && !goes_on(before, after)))
 			return false;
 	}
 	return true;

@@ -149,6 +149,16 @@ class Flows(RunTest):
                 self.assertEqual(writes[-1], ("-1", str(error)), kind)
                 self.assertTrue(all(int(size) > 0 for size, _ in writes[:-1]))
 
+    def test_calls_read_no_clock(self):
+        # the program reads one for each line of its log
+        folder = self.folder
+        self.run_on(*STILL, "--seed", 1, "--record", folder / "r", "--readers", "--check", "--",
+                    FLOWS, folder / "log", "both_at_once", "tcp")
+        reads = [line for line in (folder / "r.readers").read_text().splitlines()
+                 if line.endswith(",turn_flows")]
+        self.assertEqual({line.split(",")[4] for line in reads}, {"clock_gettime"})
+        self.assertEqual(len(reads), len((folder / "log").read_text().splitlines()))
+
     def test_what_ends_a_wait(self):
         # as on the host, where a connection of TCP has space for another number of bytes each time
         texts = host_call(program("turn_blocked")).split("unix\n")
