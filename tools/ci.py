@@ -39,7 +39,8 @@ def check_all(run):
         return
     os.environ["TKCORE"] = str(proofs / "crates/tkcore/out/tkcore")
     run.start("check_kernel", "tools/check_kernel", "--dist", built)
-    run.start("check_web", "tools/check_web", "--libraries", libraries, nice=BESIDE)
+    run.start("check_web", "tools/check_web", "--libraries", libraries, "--dist", built,
+              nice=BESIDE)
     run.check("check_run", "tools/check_run", "--dist", built)
     run.end("check_kernel")
     run.end("check_web")
