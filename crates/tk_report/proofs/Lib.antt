@@ -10,7 +10,7 @@ pub mod Traces
 mod Worked
 pub mod Outcomes
 pub mod Beginnings
-pub mod CountedClocks
+pub mod KeptClocks
 pub mod SteeredLines
 pub mod Starts
 pub mod Replies

@@ -10,6 +10,8 @@ pub mod Counts
 pub mod Reports
 pub mod Folding
 pub mod CountedClocks
+pub mod Room
+pub mod Counting
 pub mod PlainSteps
 pub mod SteeredSteps
 pub mod Journaling

@@ -20,6 +20,7 @@
 //! | `read_to_end` | reads a whole input, up to one byte more than the largest script |
 //! | `write_whole` | writes a text and flushes |
 //! | `Fault` | says why `replay` or `trace` stopped, and how much of the text was written |
+//! | `CountedClocks`, `PlainStart`, `missed_by` | are the clocks of a report that list no command, how they begin, and the test of an expected value |
 //! | `Source`, `Sink` | represent any reader and any writer |
 //!
 //! Units: readings in cycles; times in seconds and nanoseconds; texts and lengths in bytes.
@@ -48,12 +49,14 @@ mod worklist;
 
 pub use checked_report::CheckedReport;
 pub use converting::convert;
+pub use counted_clocks::CountedClocks;
 pub use fault::Fault;
 pub use journaling::{keeper_after, keeper_of};
 pub use many::replay_all;
 pub use many_error::ManyError;
+pub use plain_start::PlainStart;
 pub use replaying::{replay, replay_bounded, replay_with};
-pub use reporting::{report, report_bounded};
+pub use reporting::{missed_by, report, report_bounded};
 pub use row_reporting::report_rows;
 pub use sink::{Sink, write_whole};
 pub use source::{Source, read_to_end};
