@@ -1,0 +1,5 @@
+pub mod Fault
+pub mod Told
+pub mod Session
+pub mod Run
+pub mod Texts
