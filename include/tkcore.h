@@ -213,8 +213,22 @@ enum tkc_code {
 	/* The words represent no snapshot of the counter, no running clocks of this frequency and
 	 * tick, or no steered clocks. */
 	TKC_BAD_WORDS = 18,
-	/* `out` has fewer elements than `stamps`. */
+	/* `out` has fewer elements than `stamps`, or `lines` fewer than TKC_SESSION_ROOM bytes. */
 	TKC_BAD_ROOM = 19,
+
+	/* Faults of a record of a session. The faults of a script's counter are the numbers below. */
+
+	/* The record contains a quote, a carriage return or a line feed, or a first record begins with
+	 * the byte 0xef, which may begin a byte order mark. */
+	TKC_BAD_LINE = 20,
+	/* The first record is not an opening, or no clocks can begin with its values. */
+	TKC_BAD_OPENING = 21,
+	/* The keyword of the record, or the name of its clock, is unknown. */
+	TKC_BAD_WORD = 22,
+	/* The record has too few or too many fields for its keyword. */
+	TKC_BAD_FIELDS = 23,
+	/* A field of the record is not a number, or is out of the range of its type. */
+	TKC_BAD_NUMBER = 24,
 
 	/* Numbers that describe no counter, tested in this order. */
 
@@ -344,6 +358,14 @@ struct tkc_ntp {
 struct tkc_pps {
 	uint64_t tkc_private[10];
 };
+
+/* A session of a script: clocks that its records open and change, with the number of records. */
+struct tkc_session {
+	uint64_t tkc_private[33];
+};
+
+/* The bytes that the lines of one record may need. */
+#define TKC_SESSION_ROOM 288
 
 /* A request of tkc_adjtimex, and its reply (struct timex in include/uapi/linux/timex.h). It has
  * that struct's layout on x86-64, so a program's own may be passed: (struct tkc_timex *)&tx. A call
@@ -1164,6 +1186,49 @@ void tkc_ntp_save(uint64_t words[TKC_NTP_SAVED_WORDS], const struct tkc_ntp *ntp
 TKC_MUST_CHECK
 enum tkc_code tkc_ntp_load(struct tkc_ntp *out, const uint64_t words[TKC_NTP_SAVED_WORDS]);
 
+/*
+ * Opens a session with the first record of a script, a line without its line feed, and writes it to
+ * *out. The record has `size` bytes and opens the clocks (docs/TKCORE.md). Writes the record's line
+ * of the report to `lines`, which has `room` bytes, and the number of its bytes to *length. The
+ * other bytes of `lines` stay.
+ *
+ * A script whose records contain quotes needs the program. An empty line is no record: skip it.
+ *
+ * Returns, in this order:
+ *   TKC_BAD_ROOM     room is below TKC_SESSION_ROOM
+ *   TKC_BAD_LINE     the record has a quote, a carriage return or a line feed, or begins with 0xef
+ *   TKC_BAD_OPENING, TKC_BAD_FIELDS or TKC_BAD_NUMBER
+ *                    the fault of the record
+ */
+TKC_MUST_CHECK
+enum tkc_code tkc_session_open(struct tkc_session *out, uint8_t *lines, size_t room,
+			       uint32_t *length, const uint8_t *record, size_t size);
+
+/*
+ * Carries out the next record of a session. Writes its lines of the report to `lines`, which has
+ * `room` bytes, and the number of their bytes to *length: the record's line, and the line `differs`
+ * if it is a read that does not give the value that it states. An empty line is no record: *length
+ * is 0 and nothing changes. Full clocks refuse commands as in a report.
+ *
+ * The lines of a session are the report of the script that consists of its records, each with its
+ * line feed. A fault is the report's fault of that record.
+ *
+ * Returns, in this order:
+ *   TKC_BAD_ROOM     room is below TKC_SESSION_ROOM
+ *   TKC_BAD_LINE     the record has a quote, a carriage return or a line feed
+ *   TKC_FULL         the session has counted 2^64 - 1 records
+ *   TKC_BAD_WORD, TKC_BAD_FIELDS or TKC_BAD_NUMBER
+ *                    the fault of the record
+ *   TKC_BAD_BITS, TKC_BAD_SHIFT, TKC_BAD_MULT or TKC_BAD_ADJUST
+ *                    the record changes the counter to one that tkc_counter_new refuses
+ */
+TKC_MUST_CHECK
+enum tkc_code tkc_session_record(struct tkc_session *session, uint8_t *lines, size_t room,
+				 uint32_t *length, const uint8_t *record, size_t size);
+
+/* Stores a snapshot of a session's clocks. Its front is the number of accepted commands. */
+TKC_NONNULL void tkc_session_snapshot(struct tkc_snapshot *out, const struct tkc_session *session);
+
 /* A parser that reads only declarations, such as cffi's, is given TKC_NO_INLINE. */
 #ifndef TKC_NO_INLINE
 
@@ -1184,6 +1249,11 @@ TKC_INLINE const char *tkc_code_name(uint32_t code)
 	case TKC_BAD_CLOCK: return "TKC_BAD_CLOCK";
 	case TKC_BAD_WORDS: return "TKC_BAD_WORDS";
 	case TKC_BAD_ROOM: return "TKC_BAD_ROOM";
+	case TKC_BAD_LINE: return "TKC_BAD_LINE";
+	case TKC_BAD_OPENING: return "TKC_BAD_OPENING";
+	case TKC_BAD_WORD: return "TKC_BAD_WORD";
+	case TKC_BAD_FIELDS: return "TKC_BAD_FIELDS";
+	case TKC_BAD_NUMBER: return "TKC_BAD_NUMBER";
 	case TKC_BAD_BITS: return "TKC_BAD_BITS";
 	case TKC_BAD_SHIFT: return "TKC_BAD_SHIFT";
 	case TKC_BAD_MULT: return "TKC_BAD_MULT";

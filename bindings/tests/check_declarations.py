@@ -30,9 +30,11 @@ TYPES = {
 
 
 # Calls for programs in C: they compute with a line, and a tick and a pulse per second are a kernel's.
-# In the packages, `advance_late`, `update` and `snapshot` do what a tick does.
+# In the packages, `advance_late`, `update` and `snapshot` do what a tick does. Sessions are for callers
+# without a heap.
 IN_C_ALONE = {"tkc_snapshot_line", "tkc_ntp_tick", "tkc_ntp_pulse", "tkc_ntp_seconds", "tkc_pps_open",
-              "tkc_pps_clear", "tkc_pps_seconds", "tkc_pps_ask", "tkc_pps_reply", "struct tkc_pps"}
+              "tkc_pps_clear", "tkc_pps_seconds", "tkc_pps_ask", "tkc_pps_reply", "struct tkc_pps",
+              "tkc_session_open", "tkc_session_record", "tkc_session_snapshot", "struct tkc_session"}
 
 
 def type_of(declared):

@@ -50,6 +50,7 @@ static void do_round(void)
 	try_words(&clock, &counter);
 	try_saved(&clock);
 	try_saved_ntp(&clock);
+	try_sessions();
 }
 
 /* Prints the codes that were met. */

@@ -39,6 +39,9 @@ void try_saved(const struct tkc_clock *of);
  * the numbers are in their ranges. */
 void try_saved_ntp(const struct tkc_clock *of);
 
+/* Opens a session, and passes records of random bytes to it. */
+void try_sessions(void);
+
 /* Opens clocks, applies commands to them, changes their counter, and takes a
  * snapshot of them. */
 void try_clocks(struct tkc_clock *clock, struct tkc_counter *counter,

@@ -187,6 +187,37 @@ static void reads(const struct tkc_clock *clock, const struct tkc_counter *count
 	MEET(TKC_BAD_WORDS, tkc_snapshot_from_words(&other, counter, words));
 }
 
+static enum tkc_code open_session(struct tkc_session *session, const char *record)
+{
+	uint8_t lines[TKC_SESSION_ROOM];
+	uint32_t length;
+
+	return tkc_session_open(session, lines, sizeof(lines), &length, (const uint8_t *)record,
+				strlen(record));
+}
+
+static enum tkc_code carry_out(struct tkc_session *session, const char *record)
+{
+	uint8_t lines[TKC_SESSION_ROOM];
+	uint32_t length;
+
+	return tkc_session_record(session, lines, sizeof(lines), &length, (const uint8_t *)record,
+				  strlen(record));
+}
+
+static void sessions(void)
+{
+	struct tkc_session session;
+
+	MEET(TKC_BAD_LINE, open_session(&session, "open,\"64\",16777216,24,0,1,0"));
+	MEET(TKC_BAD_OPENING, open_session(&session, "open,64,16777216,24,0,-1,0"));
+	MEET(TKC_OK, open_session(&session, "open,64,16777216,24,0,1,0"));
+	MEET(TKC_BAD_WORD, carry_out(&session, "open,64,16777216,24,0,1,0"));
+	MEET(TKC_BAD_FIELDS, carry_out(&session, "update"));
+	MEET(TKC_BAD_NUMBER, carry_out(&session, "update,+1"));
+	MEET(TKC_OK, carry_out(&session, "update,1"));
+}
+
 int main(void)
 {
 	struct tkc_counter counter;
@@ -196,5 +227,6 @@ int main(void)
 	commands(&clock, &counter);
 	ends(&clock, &counter);
 	reads(&clock, &counter);
+	sessions();
 	return status;
 }

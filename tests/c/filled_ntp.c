@@ -193,6 +193,34 @@ static void ntp_leap(void *out)
 	check(by == -1);
 }
 
+static const uint8_t opening[] = "open,64,16777216,24,0,1700000000,0,250";
+static const uint8_t late[] = "get,5000000000,monotonic,1";
+
+static void session_opened(void *out)
+{
+	uint8_t lines[TKC_SESSION_ROOM];
+	uint32_t length;
+
+	made(tkc_session_open(out, lines, sizeof(lines), &length, opening, sizeof(opening) - 1));
+}
+
+static void session_recorded(void *out)
+{
+	uint8_t lines[TKC_SESSION_ROOM];
+	uint32_t length;
+
+	session_opened(out);
+	made(tkc_session_record(out, lines, sizeof(lines), &length, late, sizeof(late) - 1));
+}
+
+static void session_snapshot(void *out)
+{
+	struct tkc_session session;
+
+	session_recorded(&session);
+	make(tkc_session_snapshot(out, &session));
+}
+
 const struct filled filled_ntp[] = {
 	{ "ntp_open", ntp_open, sizeof(struct tkc_ntp) },
 	{ "ntp_open_at", ntp_open_at, sizeof(struct tkc_ntp) },
@@ -211,5 +239,8 @@ const struct filled filled_ntp[] = {
 	{ "ntp_leap", ntp_leap, sizeof(uint64_t) },
 	{ "ntp_snapshot", ntp_snapshot, sizeof(struct tkc_snapshot) },
 	{ "ntp_ticked", ntp_ticked, sizeof(struct tkc_snapshot) },
+	{ "session_opened", session_opened, sizeof(struct tkc_session) },
+	{ "session_recorded", session_recorded, sizeof(struct tkc_session) },
+	{ "session_snapshot", session_snapshot, sizeof(struct tkc_snapshot) },
 	{ NULL, NULL, 0 },
 };

@@ -119,6 +119,36 @@ static void load(const struct tkc_clock *clock)
 	check(words[10] == bits && words[11] == mult && words[12] == shift);
 }
 
+/* Returns whether a call wrote these lines. */
+static int are_lines(const uint8_t *lines, uint32_t length, const char *wanted)
+{
+	uint32_t at = 0;
+
+	while (at < length && wanted[at] && lines[at] == (uint8_t)wanted[at])
+		at++;
+	return at == length && !wanted[at];
+}
+
+/* Carries out two records of a script. */
+static void carry_out(void)
+{
+	static const uint8_t opening[] = "open,64,16777216,24,0,1700000000,0";
+	static const uint8_t look[] = "get,1000000000,tai,5";
+	uint8_t lines[TKC_SESSION_ROOM];
+	struct tkc_snapshot snapshot;
+	struct tkc_session session;
+	uint32_t length;
+
+	check(tkc_session_open(&session, lines, sizeof(lines), &length, opening,
+			       sizeof(opening) - 1) == TKC_OK);
+	check(are_lines(lines, length, "open,64,16777216,24\n"));
+	check(tkc_session_record(&session, lines, sizeof(lines), &length, look,
+				 sizeof(look) - 1) == TKC_OK);
+	check(are_lines(lines, length, "at,tai,1700000001.000000000\ndiffers,2,5\n"));
+	tkc_session_snapshot(&snapshot, &session);
+	check(tkc_snapshot_front(&snapshot) == 0);
+}
+
 /* Changes to a counter of two nanoseconds a cycle, at its reading 7. */
 static void change(struct tkc_clock *clock)
 {
@@ -141,6 +171,7 @@ void start(void)
 	open(&clock, &counter);
 	restore(&clock, &counter);
 	load(&clock);
+	carry_out();
 	change(&clock);
 	leave(0);
 }

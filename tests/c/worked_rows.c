@@ -15,6 +15,8 @@ _Static_assert(TKC_OK == 0 && TKC_FULL == 1 && TKC_ASLEEP == 2 &&
 	       TKC_RANGE == 6 && TKC_FURTHER == 8 && TKC_NEVER == 9, "codes of commands and reads");
 _Static_assert(TKC_BAD_COMMAND == 16 && TKC_BAD_CLOCK == 17 &&
 	       TKC_BAD_WORDS == 18 && TKC_BAD_ROOM == 19, "codes of numbers");
+_Static_assert(TKC_BAD_LINE == 20 && TKC_BAD_OPENING == 21 && TKC_BAD_WORD == 22 &&
+	       TKC_BAD_FIELDS == 23 && TKC_BAD_NUMBER == 24, "codes of records");
 _Static_assert(TKC_BAD_BITS == 32 && TKC_BAD_SHIFT == 33 && TKC_BAD_MULT == 34 &&
 	       TKC_BAD_ADJUST == 35 && TKC_BAD_RATE == 36, "codes of counters");
 _Static_assert(TKC_CMD_UPDATE == 0 && TKC_CMD_SET_TIME == 1 &&
@@ -204,6 +206,7 @@ int main(void)
 	try_saved();
 	try_ntp();
 	try_saved_ntp();
+	try_sessions();
 	puts("worked_rows: each row has its code and its values");
 	return EXIT_SUCCESS;
 }

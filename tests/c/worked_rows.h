@@ -99,5 +99,6 @@ void try_words(void);
 void try_saved(void);
 void try_ntp(void);
 void try_saved_ntp(void);
+void try_sessions(void);
 
 #endif

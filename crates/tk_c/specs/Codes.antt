@@ -7,7 +7,7 @@ use Rattle.tk_clock.specs.declared.refusal.Refusal.TheVariants as refusals
 use Rattle.tk_clock.specs.declared.refusal.ReadError.{ReadError}
 use Rattle.tk_clock.specs.declared.refusal.ReadError.TheVariants as reads
 use Rattle.tk_c.specs.declared.code.Code.{Code}
-use Rattle.tk_c.specs.declared.code.Code.TheVariants.{Done, Full, Asleep, Awake, Invalid, Behind, Range, Memory, Further, Never, BadCommand, BadClock, BadWords, BadRoom, BadBits, BadShift, BadMult, BadAdjust, BadRate}
+use Rattle.tk_c.specs.declared.code.Code.TheVariants.{Done, Full, Asleep, Awake, Invalid, Behind, Range, Memory, Further, Never, BadCommand, BadClock, BadWords, BadRoom, BadLine, BadOpening, BadWord, BadFields, BadNumber, BadBits, BadShift, BadMult, BadAdjust, BadRate}
 
 -- the number of a code
 abbrev pub number_of : Code → ℕ
@@ -25,6 +25,11 @@ number_of BadCommand = 16
 number_of BadClock = 17
 number_of BadWords = 18
 number_of BadRoom = 19
+number_of BadLine = 20
+number_of BadOpening = 21
+number_of BadWord = 22
+number_of BadFields = 23
+number_of BadNumber = 24
 number_of BadBits = 32
 number_of BadShift = 33
 number_of BadMult = 34

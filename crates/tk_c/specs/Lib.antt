@@ -27,3 +27,5 @@ pub mod Ticks
 pub mod ChangeNtpCounter
 pub mod Pps
 pub mod Pulses
+pub mod SessionStorage
+pub mod Sessions

@@ -1,16 +1,20 @@
 ghost use Rattle.std.specs.Prelude.{◌≡◌};
 ghost use Rattle.tk_c.specs.CallResults.{code_of_call};
 ghost use Rattle.tk_c.specs.Codes.{number_of, code_of_refusal, code_of_read, code_of_fault};
+ghost use Rattle.tk_c.specs.Sessions.{code_of_script, code_of_session};
 
 use tk_clock::{ReadError, Refusal};
 use tk_counter::DescError;
+use tk_script::ScriptError;
+use tk_session::Fault;
 
 /// Lists the codes that calls return, with the numbers of `enum tkc_code` in include/tkcore.h.
 #[derive(Clone, Copy)]
 pub enum Code {
     /// The call is done.
     Done = 0,
-    /// The front leaves no room below 2^63 for the commands that a call may make.
+    /// The front leaves no room below 2^63 for the commands that a call may make, or a session has
+    /// counted 2^64 - 1 records.
     Full = 1,
     /// The clocks are asleep, and the command is not `Resume`.
     Asleep = 2,
@@ -35,8 +39,19 @@ pub enum Code {
     BadClock = 17,
     /// The words represent no snapshot, or no running clocks.
     BadWords = 18,
-    /// `out` has fewer elements than `stamps`.
+    /// `out` has fewer elements than `stamps`, or `lines` has fewer than 288 bytes.
     BadRoom = 19,
+    /// A record of a session contains a quote, a carriage return or a line feed, or a first record
+    /// begins with the byte 0xef.
+    BadLine = 20,
+    /// A first record isn't an opening, or no clocks can begin with its values.
+    BadOpening = 21,
+    /// A record's keyword or the name of its clock is unknown.
+    BadWord = 22,
+    /// A record has too few or too many fields for its keyword.
+    BadFields = 23,
+    /// A field of a record isn't a number, or is out of the range of its type.
+    BadNumber = 24,
     /// A reading would have fewer than 8 bits or more than 64.
     BadBits = 32,
     /// The shift is above 32.
@@ -105,6 +120,34 @@ impl From<DescError> for Code {
             DescError::Mult => Code::BadMult,
             DescError::Adjust => Code::BadAdjust,
             DescError::Rate => Code::BadRate,
+        }
+    }
+}
+
+impl From<ScriptError> for Code {
+    ghost from_gives = { λ error code. code ≡ code_of_script error };
+
+    fn from(error: ScriptError) -> Code {
+        match error {
+            ScriptError::TooLarge | ScriptError::Empty => Code::BadLine,
+            ScriptError::Opening { .. } => Code::BadOpening,
+            ScriptError::Word { .. } => Code::BadWord,
+            ScriptError::Fields { .. } => Code::BadFields,
+            ScriptError::Number { .. } => Code::BadNumber,
+            ScriptError::Counter { error, .. } => Code::from(error),
+            ScriptError::Memory => Code::Memory,
+        }
+    }
+}
+
+impl From<Fault> for Code {
+    ghost from_gives = { λ fault code. code ≡ code_of_session fault };
+
+    fn from(fault: Fault) -> Code {
+        match fault {
+            Fault::NotPlain => Code::BadLine,
+            Fault::TooMany => Code::Full,
+            Fault::Script(error) => Code::from(error),
         }
     }
 }

@@ -1,5 +1,5 @@
 //! Offers the clocks to C: the functions of include/tkcore.h, a thin layer over tk_clock and
-//! tk_lanes, and over tk_ntp for clocks that a discipline steers.
+//! tk_lanes, over tk_ntp for clocks that a discipline steers, and over tk_session for scripts.
 //!
 //! | Item | Its meaning |
 //! |---|---|
@@ -8,9 +8,11 @@
 //! | `tkc_snapshot_*` | read one time, at a reading or at the last command, or a list of times; test a step; find the reading of a time, return a clock's line and a snapshot's numbers, convert snapshots to and from words |
 //! | `tkc_ntp_*`, `tkc_adjtimex` | open steered clocks, advance them, apply commands, pass ticks, change the counter, answer requests, return the coming leap and numbers of the discipline, convert them to and from words with their counter |
 //! | `tkc_pps_*`, `tkc_ntp_pulse`, `tkc_ntp_seconds` | keep the state of a signal of a pulse per second next to steered clocks, which take its pulses |
+//! | `tkc_session_*` | open a session with the first record of a script, carry out further records and write their lines, return a snapshot of its clocks |
 //! | `tkc_version` | returns the archive's version |
 //! | `CountedClock` | the clocks with their count of commands, `struct tkc_clock` in C |
 //! | `CountedNtp`, `SteeredCount`, `NtpStorage` | steered clocks with their count of commands, `struct tkc_ntp` in C |
+//! | `SessionStorage` | a session of records, `struct tkc_session` in C |
 //! | `KernelTimex` | a request and its reply, `struct tkc_timex` in C |
 //! | `CounterStorage`, `ClockStorage`, `SnapshotStorage`, `DisciplineStorage`, `PpsStorage`, `TimeStorage` | memory that a value is written to |
 //! | `Code` | the codes that calls return |
@@ -42,6 +44,8 @@ mod pulses;
 mod reached;
 mod saved;
 mod saved_ntp;
+mod session_storage;
+mod sessions;
 mod snapshots;
 mod steered_parts;
 mod steps;
@@ -81,6 +85,8 @@ pub use pulses::tkc_ntp_pulse;
 pub use reached::tkc_snapshot_reading;
 pub use saved::{SAVED_WORDS, tkc_clock_load, tkc_clock_save};
 pub use saved_ntp::{NTP_SAVED_WORDS, tkc_ntp_load, tkc_ntp_save};
+pub use session_storage::SessionStorage;
+pub use sessions::{tkc_session_open, tkc_session_record, tkc_session_snapshot};
 pub use snapshots::{tkc_snapshot_convert, tkc_snapshot_get};
 pub use steered_parts::{tkc_ntp_frequency, tkc_ntp_leap, tkc_ntp_status, tkc_ntp_tick_length};
 pub use steps::tkc_snapshot_step;

@@ -95,7 +95,7 @@ pub(crate) fn store_ntp(out: &mut NtpStorage, counted: &SteeredCount)
 
 /// Writes the numbers of a discipline.
 #[inline(always)]
-fn store_discipline(out: &mut DisciplineStorage, numbers: &DisciplineNumbers)
+pub(crate) fn store_discipline(out: &mut DisciplineStorage, numbers: &DisciplineNumbers)
     ensures { out.new ≡ discipline_storage numbers.now }
 {
     out.hz = numbers.hz;
