@@ -20,10 +20,14 @@ from concurrent import futures
 FOLDER = pathlib.Path(__file__).parent
 MORE = 1  # processes that run at once, beyond the number of processors
 # the modules whose tests mostly wait, and the number of processes that each runs in
-WAITING = {"test_chrony": 1, "test_kernel": 8, "test_waits": 8}
+WAITING = {"test_chrony": 1, "test_kernel": 8, "test_waits": 8, "test_ending": 2, "test_seconds": 2,
+           "test_calls": 2, "test_edges": 1, "test_faketime": 1, "test_counters": 1}
 # other modules that take long, which come first
-FIRST = {"test_masks": 5, "test_nodes": 2, "test_python": 1, "test_check": 1, "test_calls": 1,
-         "test_net_streams": 2, "test_net_connections": 1, "test_net_datagrams": 1}
+FIRST = {"test_masks": 6, "test_cluster_servers": 4, "test_nodes": 2, "test_turn_flows": 2,
+         "test_turns": 2, "test_kills": 2, "test_node_kills": 2, "test_turn_holds": 1,
+         "test_programs": 1, "test_net_ptp4l": 1, "test_net_streams": 2, "test_turn_calls": 1,
+         "test_net_stamps": 1, "test_net_strays": 1, "test_static": 1, "test_python": 1,
+         "test_check": 1, "test_net_connections": 1, "test_net_datagrams": 1}
 LONG = ["test_many_kills", "test_postgresql", "test_redis", "test_nginx"]
 
 

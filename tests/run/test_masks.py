@@ -23,13 +23,17 @@ class Masks(RunTest):
         self.assertEqual(self.run_on("--speed", 10, "--start", 1000000000, "--",
                                      program("static_masks"), "static"), "")
 
+    def signals_at_each_call(self, *words):
+        self.assertEqual(self.run_on("--start", 1000000000, "--check", "--log", self.folder / "l",
+                                     "--", program("signalled"), 60, *words), "")
+
     @unittest.skipUnless(CAN_TRACE, "no process may be traced")
     def test_a_signal_at_each_system_call_and_between(self):
-        for words in [[], ["set"]]:
-            with self.subTest(words):
-                self.assertEqual(self.run_on("--start", 1000000000, "--check", "--log",
-                                             self.folder / "l", "--", program("signalled"), 60,
-                                             *words), "")
+        self.signals_at_each_call()
+
+    @unittest.skipUnless(CAN_TRACE, "no process may be traced")
+    def test_a_signal_whose_handler_sets_the_clock_at_each_system_call(self):
+        self.signals_at_each_call("set")
 
     @unittest.skipUnless(CAN_TRACE, "no process may be traced")
     def test_a_reader_takes_over_the_lock_of_a_killed_process(self):

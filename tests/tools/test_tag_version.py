@@ -22,11 +22,24 @@ CHANGES = f"""# Changelog
 - All.
 """
 
+# 23:30 in this zone is the next day in UTC
+DEBIAN = f"""tkcore ({VERSION}) unstable; urgency=medium
+
+  * A clock.
+
+ -- me <me@here>  Sun, 29 Nov 2026 23:30:00 -0100
+
+tkcore (0.1.0) unstable; urgency=medium
+
+ -- me <me@here>  Thu, 01 Jan 2026 12:00:00 +0000
+"""
+
 
 class TagVersion(Case):
     def setUp(self):
         super().setUp()
-        self.top = self.copy("include/tkcore.h")
+        self.top = self.copy("include/tkcore.h", "debian/changelog")
+        (self.top / "debian/changelog").write_text(DEBIAN, encoding="utf-8")
         # stand for the checks of the pages and of the sources, which have their own tests
         self.set_check("check_docs", 0)
         self.set_check("release", 0)
@@ -85,6 +98,12 @@ class TagVersion(Case):
         self.refused(f"CHANGELOG.md has 9.9.9 first, and not {VERSION}")
         self.commit("CHANGELOG.md", "# Changelog\n")
         self.refused(f"CHANGELOG.md has no version first, and not {VERSION}")
+
+    def test_another_date_than_debians(self):
+        self.commit("debian/changelog", DEBIAN.replace("29 Nov", "30 Nov"))
+        self.refused("CHANGELOG.md has the date 2026-11-30, and debian/changelog 2026-12-01")
+        self.commit("CHANGELOG.md", CHANGES.replace(" - 2026-11-30", ""))
+        self.refused("CHANGELOG.md has the date none, and debian/changelog 2026-12-01")
 
     def test_wrong_pages(self):
         self.set_check("check_docs", 1)
