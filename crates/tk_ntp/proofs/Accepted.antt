@@ -36,7 +36,7 @@ not_asleep false resumes is h = refl
 not_asleep true false is h = absurd (cc)
 not_asleep true true is h = absurd (never is)
 
-no_more : (most reading : ℕ) → nat_lt most reading ≡ false → reading ≤ most
+pub no_more : (most reading : ℕ) → nat_lt most reading ≡ false → reading ≤ most
 no_more most reading h = grind (arith, common_steps)
 
 not_behind : (resumes test : Bool) → resumes ≡ false →

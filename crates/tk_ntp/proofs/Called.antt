@@ -35,7 +35,7 @@ none_small counter = record {
   high = rw (*ℤ-zero (pos counter.mult)) (omega (arith, ints));
 }
 
-left-small : (sets : Bool) (s after : SteeredClock) →
+pub left-small : (sets : Bool) (s after : SteeredClock) →
     IsLeft sets after.mark after.steering.lag s → IsSmallAfter s after
 left-small true s after left = λ chosen cycles since long.
     subst (IsSmall s.clock.base.counter) (sym left) (none_small s.clock.base.counter)
@@ -43,7 +43,7 @@ left-small false s after left = λ chosen cycles since long.
     (left-since s after.mark after.steering.lag chosen cycles since long left).1
 
 -- a call that keeps the rate and the length of the second
-kept-since : (s after : SteeredClock) → IsSameRate s.clock after.clock →
+pub kept-since : (s after : SteeredClock) → IsSameRate s.clock after.clock →
     second_length after.steering.ntp ≡ second_length s.steering.ntp →
     IsLeft false after.mark after.steering.lag s → IsSinceAfter s after
 kept-since s after rate length left = λ chosen cycles since long.

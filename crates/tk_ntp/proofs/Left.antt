@@ -47,7 +47,7 @@ unmoved-left s after is =
     (ap (λ (t : SteeredClock). t.steering.lag) is)
 
 -- an account at a reading
-accounted-left : (reading : ℕ) (s : SteeredClock) →
+pub accounted-left : (reading : ℕ) (s : SteeredClock) →
     IsLeft false reading (accounted_to reading s).steering.lag s
 accounted-left reading s = λ within.
     kept_whole (greatest_lag s.clock.base.counter) (lag_to reading s) within

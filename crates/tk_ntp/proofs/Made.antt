@@ -157,6 +157,11 @@ pub leapt-asleep : (at : ℕ) (leap : Leap) (steered : SteeredClock) →
     (leapt at leap steered).clock.base.asleep ≡ steered.clock.base.asleep
 leapt-asleep at leap steered = (leapt-made at leap steered).asleep
 
+-- and keeps MONOTONIC at its reading
+pub leapt-units : (at : ℕ) (leap : Leap) (steered : SteeredClock) →
+    units_at at (leapt at leap steered).clock ≡ units_at at steered.clock
+leapt-units at leap steered = (leapt-made at leap steered).units
+
 leapt_unless-mark : (refusal : Option Refusal) (at : ℕ) (leap : Leap) (steered : SteeredClock) →
     (leapt_unless refusal at leap steered).mark ≡ steered.mark
 leapt_unless-mark (Some refusal) at leap steered = refl

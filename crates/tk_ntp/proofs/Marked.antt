@@ -49,7 +49,7 @@ marked_asleep s test asleep is = (
 )
 
 -- with the last account at a reading
-abbrev at_mark : ℕ → SteeredClock → SteeredClock
+abbrev pub at_mark : ℕ → SteeredClock → SteeredClock
 at_mark reading s = record s { mark = reading }
 
 -- no second is due up to a reading
@@ -62,7 +62,7 @@ none_nearer reading s none other ahead reached =
       | inr no_less ↦ no_less
     ]
 
-none_before : (reading : ℕ) (s : SteeredClock) → IsNoneDue s reading →
+pub none_before : (reading : ℕ) (s : SteeredClock) → IsNoneDue s reading →
     distance s.clock.base reading ≤ half s.clock.base.counter → s.clock.base.asleep ≡ false →
     IsMarked (at_mark reading s)
 none_before reading s none ahead awake = record {
@@ -72,7 +72,7 @@ none_before reading s none ahead awake = record {
 }
 
 -- commands at the account's reading
-marked_made : (reading : ℕ) (s0 s : SteeredClock) → s.mark ≡ reading → s.next ≡ s0.next →
+pub marked_made : (reading : ℕ) (s0 s : SteeredClock) → s.mark ≡ reading → s.next ≡ s0.next →
     IsMade reading s0.clock s.clock → IsMarked (at_mark reading s0) → IsMarked s
 marked_made reading s0 s mark next made marked =
     elim made.same as (λ _. IsMarked s) [

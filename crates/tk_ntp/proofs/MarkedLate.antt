@@ -38,12 +38,12 @@ same_order : (n : ℕ) → n ≤ n
 same_order n = omega arith
 
 -- clocks whose last account is at the reading of a call, up to which their seconds begin
-record IsAt (reading : ℕ) (steered : SteeredClock) : Type 0 where
-  mark : steered.mark ≡ reading
-  ahead : distance steered.clock.base reading ≤ half steered.clock.base.counter
-  awake : steered.clock.base.asleep ≡ false
+pub record IsAt (reading : ℕ) (steered : SteeredClock) : Type 0 where
+  pub mark : steered.mark ≡ reading
+  pub ahead : distance steered.clock.base reading ≤ half steered.clock.base.counter
+  pub awake : steered.clock.base.asleep ≡ false
 
-next-at : (at reading : ℕ) (steered : SteeredClock) →
+pub next-at : (at reading : ℕ) (steered : SteeredClock) →
     distance steered.clock.base reading ≤ half steered.clock.base.counter →
     steered.clock.base.asleep ≡ false → IsAt reading (second_begun_late at reading steered)
 next-at at reading steered ahead awake =

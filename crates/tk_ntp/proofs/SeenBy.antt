@@ -1,5 +1,5 @@
 -- What calls to whatever keeps the clocks do to clocks with their discipline.
-use Rattle.std.proofs.Common.{◌≡◌, ◌∙◌, ap, subst, ℕ, Bool, List}
+use Rattle.std.proofs.Common.{◌≡◌, ◌∙◌, ap, refl, subst, ℕ, Bool, List}
 use Rattle.std.specs.Prelude.{⊤, Option, Some, None, Result, Ok, Err, MatchOption, IfOk}
 use Rattle.tk_clock.specs.declared.command.Command.{Command}
 use Rattle.tk_clock.specs.declared.command.Entry.{Entry}
@@ -86,18 +86,33 @@ module _ {X : Type 0} (state : X → State) (is_after : X → List Entry → X �
       subst (λ (k : State).
       IsCommanded reading cmd (seen k before) result (seen (state b) after)) room.same h.answer
 
-  arrived-by : (refused : Option Refusal) (is_late : Bool) (who reading : ℕ) (a : X)
+  arrived-by : (P : Type 0) (refused : Option Refusal) (is_late : Bool) (who reading : ℕ) (a : X)
       (before : Course) (result : Result ⊤ Refusal) (b : X) (after : Course) →
+      reading_refusal reading (seen (state a) before) ≡ refused →
       MatchOption refused
       (HasArrivedOr state is_after has_room is_short is_late who reading a before result b after)
       (λ r. (result ≡ Err r) × (b ≡ a) × (after ≡ before)) →
-      IfOk result (λ _. IsAdvancedBy (second_begun is_late reading) reading (seen (state a) before)
-      (seen (state b) after))
-  arrived-by None is_late who reading a before (Ok done) b after h =
-      advanced is_late who reading a before b after h
-  arrived-by None is_late who reading a before (Err refusal) b after h = tt
-  arrived-by (Some r) is_late who reading a before (Ok done) b after h = absurd (cc h.0)
-  arrived-by (Some r) is_late who reading a before (Err refusal) b after h = tt
+      (reading_refusal reading (seen (state a) before) ≡ None →
+      IsAdvancedBy (second_begun is_late reading) reading (seen (state a) before)
+      (seen (state b) after) → P) →
+      IfOk result (λ _. P)
+  arrived-by P refused is_late who reading a before (Err refusal) b after is h holds = tt
+  arrived-by P None is_late who reading a before (Ok done) b after is h holds =
+      holds is (advanced is_late who reading a before b after h)
+  arrived-by P (Some r) is_late who reading a before (Ok done) b after is h holds =
+      absurd (cc h.0)
+
+  -- what holds if all seconds up to the reading could begin
+  pub arrived_holds : (P : Type 0) (is_late : Bool) (who reading : ℕ) (a : X) (before : Course)
+      (result : Result ⊤ Refusal) (b : X) (after : Course) →
+      IsAdvancedTo state is_after has_room is_short is_late who reading a before result b after →
+      (reading_refusal reading (seen (state a) before) ≡ None →
+      IsAdvancedBy (second_begun is_late reading) reading (seen (state a) before)
+      (seen (state b) after) → P) →
+      IfOk result (λ _. P)
+  arrived_holds P is_late who reading a before result b after =
+      arrived-by P (reading_refusal reading (seen (state a) before)) is_late who reading a before
+      result b after refl
 
   -- the clocks are those that the seconds leave, if all of these could begin
   pub arrived : (is_late : Bool) (who reading : ℕ) (a : X) (before : Course)
@@ -105,6 +120,7 @@ module _ {X : Type 0} (state : X → State) (is_after : X → List Entry → X �
       IsAdvancedTo state is_after has_room is_short is_late who reading a before result b after →
       IfOk result (λ _. IsAdvancedBy (second_begun is_late reading) reading (seen (state a) before)
       (seen (state b) after))
-  arrived is_late who reading a before result b after =
-      arrived-by (reading_refusal reading (seen (state a) before)) is_late who reading a before
-      result b after
+  arrived is_late who reading a before result b after h =
+      arrived_holds (IsAdvancedBy (second_begun is_late reading) reading (seen (state a) before)
+      (seen (state b) after)) is_late who reading a before result b after h
+      (λ accepted chain. chain)

@@ -28,7 +28,7 @@ use Rattle.tk_ntp.proofs.Marked.{idle, steered-made}
 use Rattle.tk_ntp.proofs.Passed.{still_after}
 
 -- the last account stays, with the clocks, or is at a reading at which MONOTONIC stays
-abbrev IsMoved : ℕ → SteeredClock → SteeredClock → Type 0
+abbrev pub IsMoved : ℕ → SteeredClock → SteeredClock → Type 0
 IsMoved reading before after =
     ((after.mark ≡ before.mark) × (after.clock ≡ before.clock))
     ⊎ ((after.mark ≡ reading)
@@ -75,7 +75,7 @@ stretch-sum reading before after order moved =
     ] in
     account-sum after.mark after.steering.lag before after refl refl here no_nearer
 
-settled : (sets : SteeredClock → Bool) (reading : ℕ) (before advanced after : SteeredClock) →
+pub settled : (sets : SteeredClock → Bool) (reading : ℕ) (before advanced after : SteeredClock) →
     reading_refusal reading before ≡ None → IsAdvanced reading before advanced → IsMarked before →
     IsMoved reading advanced after →
     IsLeft (sets advanced) after.mark after.steering.lag advanced →

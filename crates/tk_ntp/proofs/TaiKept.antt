@@ -14,14 +14,17 @@ use Rattle.tk_clock.specs.State.{State, effect}
 use Rattle.tk_ntp.specs.declared.change.Change.{Change}
 use Rattle.tk_ntp.specs.declared.leap.Leap.{Leap}
 use Rattle.tk_ntp.specs.declared.leap.Leap.TheVariants.{None as NoLeap, Insert, Delete}
-use Rattle.tk_ntp.specs.Advance.{IsAdvanced, Arrived, Begins, leap_of_clock, leapt, leapt_unless, second_begun_at, tai_of_clock, with_next_second}
+use Rattle.tk_ntp.specs.Advance.{IsAdvanced, leap_of_clock, leapt, leapt_unless, second_begun_at, tai_of_clock, with_next_second}
 use Rattle.tk_ntp.specs.Change.{tick_command}
-use Rattle.tk_ntp.specs.History.{AreTaiSame, IsTaiInside, IsTaiKept, IsTaiSame}
+use Rattle.tk_ntp.specs.History.{IsTaiInside, IsTaiKept, IsTaiSame}
+use Rattle.tk_ntp.specs.Late.{second_begun_late, with_late_second, IsAdvancedLate}
+use Rattle.tk_ntp.specs.LateLaws.{IsTaiKeptLate}
 use Rattle.tk_ntp.specs.Leap.{leap_command}
 use Rattle.tk_ntp.specs.Second.{leap_at}
 use Rattle.tk_ntp.specs.Steering.{commands}
-use Rattle.tk_ntp.specs.SteeredClock.{SteeredClock, after_or, given_any, given_change, rate_in_force}
+use Rattle.tk_ntp.specs.SteeredClock.{SteeredClock, after_or, given_any, given_change, rate_in_force, steered_at}
 use Rattle.tk_ntp.proofs.Accepted.{ahead_before, awake_before}
+use Rattle.tk_ntp.proofs.Each.{each}
 use Rattle.tk_ntp.proofs.Made.{none_here}
 use borrow.Author.Differences.{abs_is}
 
@@ -109,7 +112,7 @@ frequency-tai at None clock = refl
 frequency-tai at (Some frequency) clock =
     given-frequency at frequency clock (state_refusal clock at (Freq frequency)) refl
 
-change-tai : (at : ℕ) (change : Change) (clock : State) →
+pub change-tai : (at : ℕ) (change : Change) (clock : State) →
     IsTaiSame at clock (given_change at change clock)
 change-tai at change clock =
     frequency-tai at change.frequency (given_any at (tick_command change) clock)
@@ -184,23 +187,33 @@ leapt-tai at Delete steered range =
     (state_refusal steered.clock at (leap_of_clock Delete steered.clock)) (deletion n is.1) refl
     (forth base.real_offset base.tai n is.0 is.1)
 
-second-tai : (at : ℕ) (steered : SteeredClock) → IsTaiInside steered.clock →
-    IsTaiSame at steered.clock (second_begun_at at steered).clock
-second-tai at steered range =
-    let begun = with_next_second at steered in
-    let leap = leap_at steered.steering.ntp steered.next in
+begun-tai : (at : ℕ) (leap : Leap) (begun : SteeredClock) → IsTaiInside begun.clock →
+    IsTaiSame at begun.clock (steered_at at (leapt at leap begun)).clock
+begun-tai at leap begun range =
     let after = leapt at leap begun in
     let change = commands after.clock.base.counter (rate_in_force after.clock) after.steering in
     change-tai at change after.clock ∙ leapt-tai at leap begun range
 
-seconds-tai : (reading : ℕ) (before after : SteeredClock) (h : IsAdvanced reading before after) →
-    AreTaiSame reading before after h
-seconds-tai reading before after (Arrived steered none) = tt
-seconds-tai reading before after (Begins steered end at due rest) = (
-  second-tai at steered,
-  seconds-tai reading (second_begun_at at steered) end rest,
-)
-
 pub tai_kept : (reading : ℕ) (before after : SteeredClock) → IsAdvanced reading before after →
     IsTaiKept reading before after
-tai_kept reading before after h = record { begun = h; same = seconds-tai reading before after h }
+tai_kept reading before after h = record {
+  begun = h;
+  same =
+      each second_begun_at (λ at steered. IsTaiInside steered.clock →
+      IsTaiSame at steered.clock (second_begun_at at steered).clock) reading before after h
+      (λ at steered range.
+      begun-tai at (leap_at steered.steering.ntp steered.next) (with_next_second at steered) range);
+}
+
+pub tai_kept_late : (reading : ℕ) (before after : SteeredClock) →
+    IsAdvancedLate reading before after → IsTaiKeptLate reading before after
+tai_kept_late reading before after h = record {
+  begun = h;
+  same =
+      each (λ at. second_begun_late at reading) (λ at steered. IsTaiInside steered.clock →
+      IsTaiSame reading steered.clock (second_begun_late at reading steered).clock) reading before
+      after h
+      (λ at steered range.
+      begun-tai reading (leap_at steered.steering.ntp steered.next)
+      (with_late_second at reading steered) range);
+}

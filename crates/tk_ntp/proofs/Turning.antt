@@ -7,7 +7,7 @@ use Rattle.std.proofs.lemmas.Int.{to_z-of_z, to_z_pos, unsigned_abs-mul, fits_si
 use Rattle.std.specs.Int.{w128}
 use Rattle.tk_ntp.specs.Rate.{nominal}
 
-joined : (from to : ℕ) → from ≤ to → 2 ^ from * 2 ^ (to - from) ≡ 2 ^ to
+pub joined : (from to : ℕ) → from ≤ to → 2 ^ from * 2 ^ (to - from) ≡ 2 ^ to
 joined from to less =
     let whole : from + (to - from) ≡ to = omega (arith, less) in
     rw (← pow-add 2 from (to - from)) (ap (λ (n : ℕ). 2 ^ n) whole)

@@ -1,6 +1,6 @@
 -- What clocks were asked for is what they were given: the accounts of the lag add up over every
 -- call.
-use Rattle.std.specs.Prelude.{◌≡◌, ℕ, ◌+◌, ◌*◌, ◌≤◌, ◌⊎◌, ⊤, Bool, true, false, ◌&&◌, Option, Some, None, is_none, ℤ, pos, ◌+ℤ◌, ◌-ℤ◌, ◌*ℤ◌, unsigned_abs}
+use Rattle.std.specs.Prelude.{◌≡◌, ℕ, ◌+◌, ◌*◌, ◌≤◌, ◌⊎◌, Bool, true, false, ◌&&◌, Option, Some, None, is_none, ℤ, pos, ◌+ℤ◌, ◌-ℤ◌, ◌*ℤ◌, unsigned_abs}
 use Rattle.tk_counter.specs.Counter.{gap, half}
 use Rattle.tk_clock.specs.declared.clock_id.ClockId.TheVariants.{Realtime}
 use Rattle.tk_clock.specs.declared.command.Command.{Command}
@@ -11,7 +11,7 @@ use Rattle.tk_clock.specs.Reach.{IsAhead, HasReached, distance}
 use Rattle.tk_clock.specs.Refusal.{state_refusal}
 use Rattle.tk_clock.specs.State.{State}
 use Rattle.tk_clock.specs.Time.{nanoseconds}
-use Rattle.tk_ntp.specs.Advance.{IsAdvanced, Arrived, Begins, second_time, second_begun_at, with_next_second}
+use Rattle.tk_ntp.specs.Advance.{AreEach, IsAdvanced, second_time, second_begun_at, sum_over, with_next_second}
 use Rattle.tk_ntp.specs.Lag.{greatest_lag, short_of}
 use Rattle.tk_ntp.specs.Ntp.{second_length}
 use Rattle.tk_ntp.specs.Rate.{nominal}
@@ -63,24 +63,21 @@ dropped_at reading steered =
 -- the sum of what the seconds that begin were asked for
 abbrev pub asked_of : (reading : ℕ) (before after : SteeredClock) →
     IsAdvanced reading before after → ℤ
-asked_of reading before after (Arrived steered none) = pos 0
-asked_of reading before after (Begins steered end at due rest) =
-    asked_to at steered +ℤ asked_of reading (second_begun_at at steered) end rest
+asked_of reading before after begun =
+    sum_over second_begun_at asked_to reading before after begun
 
 -- the sum of what was dropped
 abbrev pub dropped_of : (reading : ℕ) (before after : SteeredClock) →
     IsAdvanced reading before after → ℤ
-dropped_of reading before after (Arrived steered none) = pos 0
-dropped_of reading before after (Begins steered end at due rest) =
-    dropped_at at steered +ℤ dropped_of reading (second_begun_at at steered) end rest
+dropped_of reading before after begun =
+    sum_over second_begun_at dropped_at reading before after begun
 
 -- nothing is dropped as these seconds begin, while the lag stays within its bound
 abbrev pub AreKept : (reading : ℕ) (before after : SteeredClock) →
     IsAdvanced reading before after → Type 0
-AreKept reading before after (Arrived steered none) = ⊤
-AreKept reading before after (Begins steered end at due rest) =
-    (IsWithin at steered → dropped_at at steered ≡ pos 0)
-    × AreKept reading (second_begun_at at steered) end rest
+AreKept reading before after begun =
+    AreEach second_begun_at (λ at steered. IsWithin at steered → dropped_at at steered ≡ pos 0)
+    reading before after begun
 
 -- where the last account is
 pub record IsMarked (steered : SteeredClock) : Type 0 where

@@ -1,6 +1,6 @@
 -- The seconds of REALTIME begin, each at its own reading (timekeeping_advance,
 -- accumulate_nsecs_to_secs, kernel/time/timekeeping.c).
-use Rattle.std.specs.Prelude.{ℕ, ◌+◌, ◌-◌, ◌*◌, ◌≤◌, nat_eq, pos, unsigned_abs, Option, Some, None, if◌then◌else◌}
+use Rattle.std.specs.Prelude.{ℕ, ◌+◌, ◌-◌, ◌*◌, ◌≤◌, ⊤, nat_eq, List, [], ◌∷◌, ℤ, pos, ◌+ℤ◌, unsigned_abs, Option, Some, None, if◌then◌else◌}
 use Rattle.tk_counter.specs.Counter.{gap}
 use Rattle.tk_clock.specs.declared.command.Command.{Command}
 use Rattle.tk_clock.specs.declared.refusal.Refusal.{Refusal}
@@ -92,6 +92,28 @@ pub data IsAdvancedBy (begun : ℕ → SteeredClock → SteeredClock) (reading :
 -- the same if each second begins at its own reading
 abbrev pub IsAdvanced : ℕ → SteeredClock → SteeredClock → Type 0
 IsAdvanced reading before after = IsAdvancedBy second_begun_at reading before after
+
+-- the seconds of REALTIME that begin, in their order
+abbrev pub seconds_by : (begun : ℕ → SteeredClock → SteeredClock) (reading : ℕ)
+    (before after : SteeredClock) → IsAdvancedBy begun reading before after → List ℕ
+seconds_by begun reading before after (Arrived steered none) = []
+seconds_by begun reading before after (Begins steered end at due rest) =
+    steered.next ∷ seconds_by begun reading (begun at steered) end rest
+
+-- the sum of a number over these seconds: of their readings, and of the states before them
+abbrev pub sum_over : (begun : ℕ → SteeredClock → SteeredClock) (part : ℕ → SteeredClock → ℤ)
+    (reading : ℕ) (before after : SteeredClock) → IsAdvancedBy begun reading before after → ℤ
+sum_over begun part reading before after (Arrived steered none) = pos 0
+sum_over begun part reading before after (Begins steered end at due rest) =
+    part at steered +ℤ sum_over begun part reading (begun at steered) end rest
+
+-- a fact of each of these seconds: of its reading, and of the state before it
+abbrev pub AreEach : (begun : ℕ → SteeredClock → SteeredClock)
+    (Fact : ℕ → SteeredClock → Type 0) (reading : ℕ) (before after : SteeredClock) →
+    IsAdvancedBy begun reading before after → Type 0
+AreEach begun Fact reading before after (Arrived steered none) = ⊤
+AreEach begun Fact reading before after (Begins steered end at due rest) =
+    Fact at steered × AreEach begun Fact reading (begun at steered) end rest
 
 -- 0 while an inserted second is in progress, otherwise 1
 abbrev pub steps_before : LeapState → ℕ

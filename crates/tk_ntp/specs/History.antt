@@ -1,10 +1,10 @@
 -- The seconds that begin as steered clocks are advanced: what they give of an offset, and TAI.
-use Rattle.std.specs.Prelude.{◌≡◌, ℕ, List, [], ◌∷◌, ℤ, pos, ◌+ℤ◌, ◌-ℤ◌, ◌<ℤ◌, ⊤}
+use Rattle.std.specs.Prelude.{◌≡◌, ℕ, length, ℤ, pos, ◌+ℤ◌, ◌-ℤ◌, ◌<ℤ◌}
 use Rattle.std.specs.Int.{int_div_euclid}
 use Rattle.tk_clock.specs.declared.clock_id.ClockId.TheVariants.{Tai as TaiClock}
 use Rattle.tk_clock.specs.Limits.{greatest_tai}
 use Rattle.tk_clock.specs.State.{State, base_value}
-use Rattle.tk_ntp.specs.Advance.{IsAdvanced, Arrived, Begins, second_begun_at}
+use Rattle.tk_ntp.specs.Advance.{AreEach, IsAdvanced, IsAdvancedBy, second_begun_at, seconds_by}
 use Rattle.tk_ntp.specs.Given.{after as after_seconds, given as given_of_offset}
 use Rattle.tk_ntp.specs.SteeredClock.{SteeredClock}
 
@@ -14,23 +14,33 @@ abbrev pub second_number : SteeredClock → ℤ
 second_number steered =
     pos steered.next -ℤ int_div_euclid steered.clock.base.real_offset (pos 1000000000)
 
--- the seconds of REALTIME that begin, in their order
-abbrev pub seconds_of : (reading : ℕ) (before after : SteeredClock) →
-    IsAdvanced reading before after → List ℕ
-seconds_of reading before after (Arrived steered none) = []
-seconds_of reading before after (Begins steered end at due rest) =
-    steered.next ∷ seconds_of reading (second_begun_at at steered) end rest
-
--- the discipline is the one after these seconds, and no part of its offset is lost: what they gave
--- of it, and what is left, make the offset
-pub record IsOffsetKept (reading : ℕ) (before after : SteeredClock) : Type 0 where
-  pub begun : IsAdvanced reading before after
+-- the discipline is the one after the seconds that begin, and no part of its offset is lost: what
+-- they gave of it, and what is left, make the offset
+pub record IsOffsetKeptBy (starts : ℕ → SteeredClock → SteeredClock) (reading : ℕ)
+    (before after : SteeredClock) : Type 0 where
+  pub begun : IsAdvancedBy starts reading before after
   pub ntp :
-      after.steering.ntp ≡ after_seconds (seconds_of reading before after begun) before.steering.ntp
+      after.steering.ntp
+      ≡ after_seconds (seconds_by starts reading before after begun) before.steering.ntp
   pub kept :
-      given_of_offset (seconds_of reading before after begun) before.steering.ntp
+      given_of_offset (seconds_by starts reading before after begun) before.steering.ntp
       +ℤ after.steering.ntp.offset
       ≡ before.steering.ntp.offset
+
+-- the number of the next second grows by 1 with each of them
+pub record IsNumberedBy (starts : ℕ → SteeredClock → SteeredClock) (reading : ℕ)
+    (before after : SteeredClock) : Type 0 where
+  pub begun : IsAdvancedBy starts reading before after
+  pub number :
+      second_number after
+      ≡ second_number before +ℤ pos (length (seconds_by starts reading before after begun))
+
+-- the same if each second begins at its own reading
+abbrev pub IsOffsetKept : ℕ → SteeredClock → SteeredClock → Type 0
+IsOffsetKept reading before after = IsOffsetKeptBy second_begun_at reading before after
+
+abbrev pub IsNumbered : ℕ → SteeredClock → SteeredClock → Type 0
+IsNumbered reading before after = IsNumberedBy second_begun_at reading before after
 
 -- the TAI offset is neither 0 nor at its limit, so a leap can change it in either direction
 abbrev pub IsTaiInside : State → Type 0
@@ -41,15 +51,10 @@ abbrev pub IsTaiSame : ℕ → State → State → Type 0
 IsTaiSame reading before after =
     base_value after.base TaiClock reading ≡ base_value before.base TaiClock reading
 
--- at the reading of each second that begins, TAI is the same before and after its leap and its rate
-abbrev pub AreTaiSame : (reading : ℕ) (before after : SteeredClock) →
-    IsAdvanced reading before after → Type 0
-AreTaiSame reading before after (Arrived steered none) = ⊤
-AreTaiSame reading before after (Begins steered end at due rest) =
-    (IsTaiInside steered.clock → IsTaiSame at steered.clock (second_begun_at at steered).clock)
-    × AreTaiSame reading (second_begun_at at steered) end rest
-
--- TAI runs on as these seconds begin
+-- TAI runs on as seconds begin: at the reading of each, it is the same before and after its leap and
+-- its rate
 pub record IsTaiKept (reading : ℕ) (before after : SteeredClock) : Type 0 where
   pub begun : IsAdvanced reading before after
-  pub same : AreTaiSame reading before after begun
+  pub same :
+      AreEach second_begun_at (λ at steered. IsTaiInside steered.clock →
+      IsTaiSame at steered.clock (second_begun_at at steered).clock) reading before after begun

@@ -26,6 +26,7 @@ pub mod Asked
 pub mod Applied
 pub mod Staged
 pub mod Late
+pub mod LateLaws
 pub mod Course
 pub mod Entries
 pub mod Keeping
@@ -34,6 +35,7 @@ pub mod Followed
 pub mod Numbers
 pub mod Restored
 pub mod ChangeCounter
+pub mod ChangeLaws
 pub mod Pps
 pub mod Pulse
 pub mod PpsReply

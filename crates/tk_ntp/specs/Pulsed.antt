@@ -8,6 +8,7 @@ use Rattle.tk_ntp.specs.Advance.{IsAdvanced}
 use Rattle.tk_ntp.specs.Asked.{accounted_if, steered_if}
 use Rattle.tk_ntp.specs.Course.{Course, seen}
 use Rattle.tk_ntp.specs.Entries.{rate_entries_if}
+use Rattle.tk_ntp.specs.History.{IsOffsetKept, IsTaiKept, IsTaiSame}
 use Rattle.tk_ntp.specs.Keeping.{IsFollowing, second_most}
 use Rattle.tk_ntp.specs.Pps.{without_signal}
 use Rattle.tk_ntp.specs.Pulse.{with_pulse}
@@ -52,7 +53,16 @@ IsPulsed reading pulse before result after =
     × (result ≡ Ok (tt {0})) × (after ≡ after_pulse reading pulse advanced))
     (λ refusal. (result ≡ Err refusal) × (after ≡ before))
 
--- the same for clocks that are kept elsewhere (Keeping.antt)
+-- no part of the offset is lost and TAI runs on, as the seconds up to a pulse begin; and the pulse
+-- leaves TAI at its reading
+pub record IsKeptAtPulse (reading : ℕ) (pulse : Pulse) (before after : SteeredClock) : Type 0 where
+  pub advanced : SteeredClock
+  pub offset : IsOffsetKept reading before advanced
+  pub tai : IsTaiKept reading before advanced
+  pub taken : after ≡ after_pulse reading pulse advanced
+  pub same : IsTaiSame reading advanced.clock after.clock
+
+-- the result of a pulse for clocks that are kept elsewhere (Keeping.antt)
 module _ {X : Type 0} (state : X → State) (is_after : X → List Entry → X → Type 0)
     (has_room : ℕ → X → Type 0) (is_short : ℕ → X → Refusal → Type 0) where
   -- the discipline has taken a pulse, after the seconds up to its reading

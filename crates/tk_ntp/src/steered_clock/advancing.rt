@@ -2,8 +2,9 @@
 ghost use Rattle.std.specs.Prelude.{◌≡◌, MatchResult, IfOk, Some, None};
 ghost use Rattle.tk_ntp.specs.SteeredClock.{reading_refusal};
 ghost use Rattle.tk_ntp.specs.Account.{IsMarked, IsAccounted};
-ghost use Rattle.tk_ntp.specs.History.{IsOffsetKept, IsTaiKept};
+ghost use Rattle.tk_ntp.specs.History.{IsNumbered, IsOffsetKept, IsTaiKept};
 ghost use Rattle.tk_ntp.specs.Late.{IsAdvancedLate};
+ghost use Rattle.tk_ntp.specs.LateLaws.{IsAccountedLate, IsNumberedLate, IsOffsetKeptLate, IsTaiKeptLate};
 ghost use Rattle.tk_ntp.specs.Often.{IsAtOnce};
 ghost use Rattle.tk_ntp.specs.Steady.{StaysSmall};
 ghost use Rattle.tk_ntp.specs.Advance.{IsNoneDue, IsAdvanced};
@@ -38,6 +39,8 @@ impl SteeredClock {
         ensures none { IfOk result (λ _. IsNoneDue self.new reading) }
         // advancing often or seldom leaves the same state
         ensures at_once { IfOk result (λ _. IsAtOnce reading self.old self.new) }
+        // the number of the next second grows by 1 with each
+        ensures number { IfOk result (λ _. IsNumbered reading self.old self.new) }
         // no part of an offset is lost
         ensures offset { IfOk result (λ _. IsOffsetKept reading self.old self.new) }
         // TAI runs on at each leap
@@ -71,6 +74,12 @@ impl SteeredClock {
         ensures none { IfOk result (λ _. IsNoneDue self.new reading) }
         // the last account stays where the laws of the lag want it
         ensures marked { IfOk result (λ _. IsMarked self.old → IsMarked self.new) }
+        // the laws of `advance` on the number of the next second, the offset, TAI and the accounts
+        ensures number { IfOk result (λ _. IsNumberedLate reading self.old self.new) }
+        ensures offset { IfOk result (λ _. IsOffsetKeptLate reading self.old self.new) }
+        ensures tai { IfOk result (λ _. IsTaiKeptLate reading self.old self.new) }
+        ensures sum { IfOk result (λ _. IsMarked self.old →
+            IsAccountedLate reading self.old self.new) }
     {
         self.course.advance(&mut self.clock, true, 0, reading)
     }

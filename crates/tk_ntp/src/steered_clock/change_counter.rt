@@ -3,6 +3,7 @@ ghost use Rattle.std.specs.Prelude.{◌≡◌, IfOk};
 ghost use Rattle.tk_counter.specs.Counter.{IsCounter};
 ghost use Rattle.tk_ntp.specs.Account.{IsMarked};
 ghost use Rattle.tk_ntp.specs.ChangeCounter.{IsCounterChanged, IsTurnedOver};
+ghost use Rattle.tk_ntp.specs.ChangeLaws.{IsBalancedOver, IsKeptOver};
 
 use super::SteeredClock;
 use tk_clock::Refusal;
@@ -38,6 +39,11 @@ impl SteeredClock {
     ) -> Result<(), Refusal>
         ensures answer { IsCounterChanged reading desc first self.old result self.new }
         ensures counter { IsCounter desc }
+        // no part of the offset is lost, and TAI runs on
+        ensures kept { IfOk result (λ _. IsKeptOver reading first self.old self.new) }
+        // the accounts add up to what the clocks were asked for, and the sum is carried over
+        ensures sum { IsMarked self.old → IfOk result
+            (λ _. IsBalancedOver reading self.old self.new) }
         // the last account stays where the laws of the lag want it
         ensures marked { IfOk result (λ _. IsMarked self.new) }
     {

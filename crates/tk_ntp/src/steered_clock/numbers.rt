@@ -72,8 +72,9 @@ impl SteeredClock {
     /// counter's range after the last command, at it while the clocks sleep, and not after the
     /// beginning of the next second.
     ///
-    /// It is there after `open` and `open_at`, and `advance`, `advance_late`, `adjtimex` and `apply`
-    /// keep it there. So it is to be asked of numbers that come from elsewhere (`from_numbers`).
+    /// It is there after `open` and `open_at`, and `advance`, `advance_late`, `adjtimex`, `apply` and
+    /// `pulse` keep it there. So it is to be asked of numbers that come from elsewhere
+    /// (`from_numbers`).
     pub fn is_marked(&self) -> bool
         ensures { IsTrue result ↔ IsMarked self.now }
     {

@@ -1,7 +1,9 @@
 //! Takes pulses of a signal.
-ghost use Rattle.std.specs.Prelude.{◌≡◌};
+ghost use Rattle.std.specs.Prelude.{◌≡◌, IfOk, false, is_none};
+ghost use Rattle.tk_ntp.specs.Account.{IsBalanced, IsMarked};
 ghost use Rattle.tk_ntp.specs.Pulse.{IsPulse};
-ghost use Rattle.tk_ntp.specs.Pulsed.{IsPulsed, with_lost};
+ghost use Rattle.tk_ntp.specs.Pulsed.{IsKeptAtPulse, IsPulsed, with_lost};
+ghost use Rattle.tk_ntp.specs.Steady.{IsSmallOrSame};
 
 use super::SteeredClock;
 use crate::pulse::Pulse;
@@ -18,6 +20,14 @@ impl SteeredClock {
     pub fn pulse(&mut self, reading: u64, pulse: Pulse) -> Result<(), Refusal>
         requires { IsPulse pulse }
         ensures answer { IsPulsed reading pulse self.old result self.new }
+        // no part of the offset is lost, and TAI runs on
+        ensures kept { IfOk result (λ _. IsKeptAtPulse reading pulse self.old self.new) }
+        // the accounts add up to what the clocks were asked for
+        ensures sum { IsMarked self.old → IsBalanced (λ _. false) reading self.old self.new }
+        // the lag stays small, if it was when the clocks got their rate
+        ensures small { IsSmallOrSame (is_none pulse.frequency) reading self.old self.new }
+        // the last account stays after the last command, and before the next second
+        ensures marked { IsMarked self.old → IsMarked self.new }
     {
         self.course.pulse(&mut self.clock, 0, reading, pulse)
     }

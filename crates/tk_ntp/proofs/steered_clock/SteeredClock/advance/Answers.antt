@@ -3,7 +3,7 @@ use Rattle.std.specs.Prelude.{Ok, Err, MatchOption}
 use Rattle.tk_ntp.specs.Account.{IsAccounted, IsMarked}
 use Rattle.tk_ntp.specs.Advance.{second_begun_at, IsAdvanced, IsNoneDue}
 use Rattle.tk_ntp.specs.Course.{seen}
-use Rattle.tk_ntp.specs.History.{IsOffsetKept, IsTaiKept}
+use Rattle.tk_ntp.specs.History.{IsNumbered, IsOffsetKept, IsTaiKept}
 use Rattle.tk_ntp.specs.Often.{IsAtOnce}
 use Rattle.tk_ntp.specs.Steady.{StaysSmall}
 use Rattle.tk_ntp.specs.SteeredClock.{SteeredClock, reading_refusal}
@@ -12,6 +12,7 @@ use Rattle.tk_ntp.proofs.Account.{accounted_for}
 use Rattle.tk_ntp.proofs.Alone.{arrived}
 use Rattle.tk_ntp.proofs.History.{offset_kept}
 use Rattle.tk_ntp.proofs.Laws.{arrived_answer, arrived_holds}
+use Rattle.tk_ntp.proofs.Numbered.{numbered}
 use Rattle.tk_ntp.proofs.Often.{at_once, none_left}
 use Rattle.tk_ntp.proofs.Steady.{stays_small}
 use Rattle.tk_ntp.proofs.TaiKept.{tai_kept}
@@ -61,6 +62,14 @@ returns-clause-offset c =
     arrived_holds second_begun_at (IsOffsetKept c.args.reading s end) c.args.reading s end
     c.advance.result (reading_refusal c.args.reading s) refl (told c)
     (λ accepted chain. offset_kept c.args.reading s end chain)
+
+pub returns-clause-number : goal.returns-clause-number
+returns-clause-number c =
+    let s = c.args.self.now in
+    let end = seen c.advance.new.clocks c.advance.new.self in
+    arrived_holds second_begun_at (IsNumbered c.args.reading s end) c.args.reading s end
+    c.advance.result (reading_refusal c.args.reading s) refl (told c)
+    (λ accepted chain. numbered c.args.reading s end chain)
 
 pub returns-clause-tai : goal.returns-clause-tai
 returns-clause-tai c =

@@ -4,12 +4,17 @@ use Rattle.tk_ntp.specs.Account.{IsMarked}
 use Rattle.tk_ntp.specs.Advance.{IsNoneDue}
 use Rattle.tk_ntp.specs.Course.{seen}
 use Rattle.tk_ntp.specs.Late.{second_begun_late, IsAdvancedLate}
+use Rattle.tk_ntp.specs.LateLaws.{IsAccountedLate, IsNumberedLate, IsOffsetKeptLate, IsTaiKeptLate}
 use Rattle.tk_ntp.specs.SteeredClock.{SteeredClock, reading_refusal}
 use Rattle.tk_ntp.proofs.Accepted.{ahead_at, awake_at}
+use Rattle.tk_ntp.proofs.AccountLate.{accounted_late}
 use Rattle.tk_ntp.proofs.Alone.{arrived}
+use Rattle.tk_ntp.proofs.History.{offset_kept_late}
 use Rattle.tk_ntp.proofs.Laws.{arrived_answer, arrived_holds}
 use Rattle.tk_ntp.proofs.MarkedLate.{marked_late}
+use Rattle.tk_ntp.proofs.Numbered.{numbered_late}
 use Rattle.tk_ntp.proofs.Often.{none_left}
+use Rattle.tk_ntp.proofs.TaiKept.{tai_kept_late}
 use Rattle.tk_ntp.proofs.steered_clock.SteeredClock.advance_late.Goals as goal
 
 -- the seconds begin, or the reading is refused
@@ -49,3 +54,35 @@ returns-clause-marked c =
     (λ accepted chain. λ marked.
     marked_late c.args.reading s end chain (ahead_at c.args.reading s accepted)
     (awake_at c.args.reading s accepted) marked)
+
+pub returns-clause-number : goal.returns-clause-number
+returns-clause-number c =
+    let s = c.args.self.now in
+    let end = seen c.advance.new.clocks c.advance.new.self in
+    arrived_holds (λ at. second_begun_late at c.args.reading) (IsNumberedLate c.args.reading s end)
+    c.args.reading s end c.advance.result (reading_refusal c.args.reading s) refl (told c)
+    (λ accepted chain. numbered_late c.args.reading s end chain)
+
+pub returns-clause-offset : goal.returns-clause-offset
+returns-clause-offset c =
+    let s = c.args.self.now in
+    let end = seen c.advance.new.clocks c.advance.new.self in
+    arrived_holds (λ at. second_begun_late at c.args.reading) (IsOffsetKeptLate c.args.reading s end)
+    c.args.reading s end c.advance.result (reading_refusal c.args.reading s) refl (told c)
+    (λ accepted chain. offset_kept_late c.args.reading s end chain)
+
+pub returns-clause-tai : goal.returns-clause-tai
+returns-clause-tai c =
+    let s = c.args.self.now in
+    let end = seen c.advance.new.clocks c.advance.new.self in
+    arrived_holds (λ at. second_begun_late at c.args.reading) (IsTaiKeptLate c.args.reading s end)
+    c.args.reading s end c.advance.result (reading_refusal c.args.reading s) refl (told c)
+    (λ accepted chain. tai_kept_late c.args.reading s end chain)
+
+pub returns-clause-sum : goal.returns-clause-sum
+returns-clause-sum c =
+    let s = c.args.self.now in
+    let end = seen c.advance.new.clocks c.advance.new.self in
+    arrived_holds (λ at. second_begun_late at c.args.reading) (IsMarked s → IsAccountedLate c.args.reading s end)
+    c.args.reading s end c.advance.result (reading_refusal c.args.reading s) refl (told c)
+    (λ accepted chain. λ marked. accounted_late c.args.reading s end chain accepted marked)
