@@ -27,7 +27,9 @@ class CheckProgram(Case):
         self.write("tools/packages.txt", "check_program sh sh all")
         for name in HARNESS:
             self.write(f"tests/harness/{name}", "exit 0")
-        self.write("tests/model/compare.py", "exit 0")
+        for name in "compare", "session":
+            self.write(f"tests/model/{name}.py", "exit 0")
+        self.write("crates/tk_session_reports/out/tk_session_reports", "exit 0")
         self.write("tests/program/test_one.py", ONE)
         self.write("crates/tkcore/out/tkcore", "exit 0")
         for name in CRATES:

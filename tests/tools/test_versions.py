@@ -28,7 +28,7 @@ class Versions(Case):
         top = self.copy("crates.txt", "HANDLES", "crates/tk_counter")
         status, said, _ = self.run_tool("tools/must_fail", "tk_counter", top=top)
         self.assertEqual(0, status, said)
-        self.assertIn("must_fail: 2 edits of 1 crates refused, 0 not\n", said)
+        self.assertIn("must_fail: 1 edits of 1 crates refused, 0 not\n", said)
 
 
 if __name__ == "__main__":

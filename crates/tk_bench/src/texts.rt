@@ -7,7 +7,7 @@ use std::alloc::{AllocError, Global};
 use std::thread::Threads;
 use std::time::Clock as Hours;
 use tk_clock::ClockId;
-use tk_report::{report, trace};
+use tk_replay::{report, trace};
 
 /// Makes the report of a script.
 #[derive(Drop)]

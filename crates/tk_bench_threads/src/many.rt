@@ -5,7 +5,7 @@ use std::sync::Wait;
 use std::thread::Threads;
 use std::time::{Clock as Hours, Instant};
 use tk_race::NoGate;
-use tk_report::{CheckedReport, replay_all};
+use tk_replay::{CheckedReport, replay_all};
 use tk_test_support::{Effort, IN_MILLISECONDS, Turn};
 
 const SCRIPTS: usize = 8;

@@ -2,7 +2,7 @@
 use Rattle.std.proofs.Common.{◌≡◌, ℕ, ◌<◌, ◌+◌, List, [], ◌∷◌, ◌++◌, length, get_or, take, sym, subst}
 use Rattle.std.specs.List.{AllZip}
 use Rattle.std.proofs.lemmas.List.{take_more}
-use Rattle.tk_report.proofs.Outcomes.{all_zip-push}
+use Rattle.tk_replay.proofs.Outcomes.{all_zip-push}
 
 module _ {A B : Type 0} (R : A → B → Type 0) where
   -- the first items of a list, and one more

@@ -1,7 +1,7 @@
 -- The text of many reports, file by file.
 use Rattle.std.proofs.Common.{◌≡◌, ℕ, ◌+◌, ◌<◌, List, [], ◌∷◌, ◌++◌, length, get_or, take, sym, ap, ◌∙◌, append_assoc, arith}
 use Rattle.std.proofs.lemmas.List.{append-nil, take_more, length-take-le}
-use Rattle.tk_report.specs.Many.{Outcome}
+use Rattle.tk_replay.specs.Many.{Outcome}
 use Rattle.tk_program.specs.ManyText.{heading, outcome_text, text_from}
 
 -- one more file at the end

@@ -8,7 +8,7 @@ use Rattle.tk_race.specs.RaceError.{error_text}
 use Rattle.tk_report.specs.declared.fault.Fault.{Fault}
 use Rattle.tk_report.specs.declared.fault.Fault.TheVariants as faults
 use Rattle.tk_report.specs.Fault.{fault_text}
-use Rattle.tk_report.specs.ManyError.{many_text}
+use Rattle.tk_replay.specs.ManyError.{many_text}
 use Rattle.tk_command_line.specs.declared.words_error.WordsError.{WordsError}
 use Rattle.tk_command_line.specs.declared.words_error.WordsError.TheVariants as errors
 use Rattle.tk_program.specs.declared.ending.Ending.{Ending}

@@ -6,9 +6,9 @@ use Rattle.std.specs.List.{list_all}
 use Rattle.std.specs.Io.KnownBytes.{Appends}
 use Rattle.tk_report.specs.declared.fault.Fault.{Fault}
 use Rattle.tk_report.specs.declared.fault.Fault.TheVariants as faults
-use Rattle.tk_report.specs.declared.many_error.ManyError.{ManyError}
-use Rattle.tk_report.specs.declared.many_error.ManyError.TheVariants as manys
-use Rattle.tk_report.specs.Many.{AreOutcomes, Outcome}
+use Rattle.tk_replay.specs.declared.many_error.ManyError.{ManyError}
+use Rattle.tk_replay.specs.declared.many_error.ManyError.TheVariants as manys
+use Rattle.tk_replay.specs.Many.{AreOutcomes, Outcome}
 use Rattle.tk_report.specs.Writing.{IsFlushed, IsWrittenUpTo, WriteFailed}
 use Rattle.tk_program.specs.declared.ending.Ending.{Ending}
 use Rattle.tk_program.specs.declared.ending.Ending.TheVariants as endings

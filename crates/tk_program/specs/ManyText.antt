@@ -2,7 +2,7 @@
 use Rattle.std.specs.Prelude.{ℕ, ◌+◌, List, [], ◌∷◌, ◌++◌, Ok, Err, codes, decimal}
 use Rattle.tk_script.specs.declared.script_error.ScriptError.{ScriptError}
 use Rattle.tk_script.specs.ScriptError.{script_text}
-use Rattle.tk_report.specs.Many.{Outcome}
+use Rattle.tk_replay.specs.Many.{Outcome}
 
 -- the line above a script's report
 abbrev pub heading : ℕ → List ℕ

@@ -10,7 +10,7 @@ use Rattle.tk_report.specs.Folding.{rule_of}
 use Rattle.tk_report.specs.Reading.{ReadFailed}
 use Rattle.tk_report.specs.Replay.{IsReplayed}
 use Rattle.tk_report.specs.Reports.{IsReportBy}
-use Rattle.tk_report.specs.Trace.{EitherFailed, IsTraceDone}
+use Rattle.tk_replay.specs.Trace.{EitherFailed, IsTraceDone}
 use Rattle.tk_program.specs.declared.ending.Ending.{Ending}
 use Rattle.tk_program.specs.declared.ending.Ending.TheVariants as endings
 use Rattle.tk_command_line.specs.CommandLine.{asked_by}

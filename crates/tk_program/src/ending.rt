@@ -7,7 +7,8 @@ use std::io;
 use std::io::Write;
 use tk_command_line::WordsError;
 use tk_race::RaceError;
-use tk_report::{Fault, ManyError, Sink};
+use tk_replay::ManyError;
+use tk_report::{Fault, Sink};
 use tk_script::ScriptError;
 
 /// More bytes than any line of error has.

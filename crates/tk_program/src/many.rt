@@ -13,7 +13,8 @@ use std::alloc::Global;
 use std::sync::Wait;
 use std::thread::Threads;
 use tk_race::NoGate;
-use tk_report::{CheckedReport, Fault, Sink, replay_all};
+use tk_replay::replay_all;
+use tk_report::{CheckedReport, Fault, Sink};
 use tk_script::ScriptError;
 
 /// Reads all files, makes the reports of their scripts on `workers` threads, and writes them.

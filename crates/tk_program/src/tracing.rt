@@ -6,7 +6,8 @@ use crate::folder::Folder;
 use std::alloc::Global;
 use std::thread::Threads;
 use tk_clock::ClockId;
-use tk_report::{Fault, Sink, trace};
+use tk_replay::trace;
+use tk_report::{Fault, Sink};
 
 /// Converts the stamps of one file by the script in another, and writes the lines.
 ///

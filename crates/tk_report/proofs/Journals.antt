@@ -9,7 +9,7 @@ use Rattle.tk_script.specs.declared.script_error.ScriptError.TheVariants as erro
 use Rattle.tk_script.specs.Grammar.{Fails}
 use Rattle.tk_report.specs.Journaling.{IsJournaled}
 use Rattle.tk_report.specs.Rows.{HasDone, IsAfterRows}
-use Rattle.tk_report.specs.Trace.{after_all, journal_after}
+use Rattle.tk_report.specs.AllRows.{after_all, journal_after}
 use Rattle.tk_report.proofs.Rows.{Rows}
 
 after-all : (rows : List Row) (before next : Keeper) → IsAfterRows IsJournaled before rows next →

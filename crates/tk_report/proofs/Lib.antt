@@ -6,11 +6,8 @@ pub mod Noted
 pub mod Lines
 pub mod PlainLines
 pub mod Journals
-pub mod Traces
-mod Worked
-pub mod Outcomes
 pub mod Beginnings
-pub mod CountedClocks
+pub mod KeptClocks
 pub mod SteeredLines
 pub mod Starts
 pub mod Replies

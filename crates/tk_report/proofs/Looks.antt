@@ -19,7 +19,7 @@ use Rattle.tk_report.specs.Report.{IsLookLine, missed_at, missed_if}
 use Rattle.tk_report.proofs.Times.{IsTimeAt-read}
 
 -- both refuse the same reads
-read_fault-base : (journal : Journal) (base : ReadBase) (clock : ClockId) (reading : ℕ) →
+pub read_fault-base : (journal : Journal) (base : ReadBase) (clock : ClockId) (reading : ℕ) →
     base ≡ base_of journal →
     read_refusal base clock reading ≡ read_fault journal clock reading
 read_fault-base journal base clock reading same =

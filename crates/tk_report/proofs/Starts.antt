@@ -16,7 +16,7 @@ use Rattle.tk_report.specs.Folding.{rule_of}
 use Rattle.tk_report.specs.Report.{Rule, IsPlainReportOfRows, differences_of}
 use Rattle.tk_report.specs.Reports.{IsPlainReportWith, IsReportFrom, IsReportOfRows}
 use Rattle.tk_report.specs.SteeredReport.{IsSteeredJournal, IsSteeredJournalOfRows, IsSteeredReport, IsSteeredReportOfRows}
-use Rattle.tk_report.specs.Trace.{IsJournalFrom, IsJournalOf, after_all, journal_after}
+use Rattle.tk_report.specs.AllRows.{IsJournalFrom, IsJournalOf, after_all, journal_after}
 use Rattle.tk_report.proofs.Lines.{Fails-from, fails-opened}
 use Rattle.tk_report.proofs.Rows.{Rows}
 use Rattle.tk_steered.specs.Kept.{SteeredKeeper}

@@ -1,4 +1,4 @@
--- The texts of faults, and the faults for the errors of a script, a stamp file or an item.
+-- The texts of faults, and the faults for the errors of a script or an item.
 use Rattle.std.specs.Prelude.{ℕ, List, ◌++◌, Option, Some, codes}
 use Rattle.tk_script.specs.declared.script_error.ScriptError.{ScriptError}
 use Rattle.tk_script.specs.declared.script_error.ScriptError.TheVariants as errors
@@ -26,10 +26,6 @@ fault_with of_text error = of_text error
 -- the fault for an error of a script
 abbrev pub fault_of : ScriptError → Fault
 fault_of error = fault_with faults.Script error
-
--- the fault for an error of a stamp file
-abbrev pub fault_of_stamps : ScriptError → Fault
-fault_of_stamps error = fault_with faults.Stamps error
 
 -- the fault for an error of an item; an allocation failure is a separate fault
 abbrev pub fault_of_trace : TraceError → Fault

@@ -10,10 +10,10 @@ pub mod Counts
 pub mod Reports
 pub mod Folding
 pub mod CountedClocks
+pub mod Room
+pub mod Counting
 pub mod PlainSteps
 pub mod SteeredSteps
 pub mod Journaling
 pub mod Replay
-pub mod Trace
-pub mod Many
-pub mod ManyError
+pub mod AllRows

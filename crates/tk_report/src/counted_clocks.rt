@@ -1,7 +1,7 @@
-//! The clocks of a report that no discipline steers.
+//! The clocks of a report that list no command.
 ghost use Rattle.std.specs.Prelude.{◌≡◌, ◌<◌, unsigned_abs};
 ghost use Rattle.tk_clock.specs.declared.clock_id.ClockId.TheVariants.{Monotonic};
-ghost use Rattle.tk_clock.specs.Limits.{clock_end, counted_most};
+ghost use Rattle.tk_clock.specs.Limits.{clock_end, counted_most, listed_most};
 ghost use Rattle.tk_clock.specs.State.{base_value};
 ghost use Rattle.tk_keeper.specs.Read.{IsTimeOf};
 ghost use Rattle.tk_report.specs.Beginnings.{start_of};
@@ -9,6 +9,8 @@ ghost use Rattle.tk_report.specs.CountedClocks.{ForKept, IsKept, IsReplied, most
 ghost use Rattle.tk_report.specs.Folding.{rule_of};
 ghost use Rattle.tk_report.specs.Report.{change_reply, event, reply_by};
 ghost use Rattle.tk_script.specs.Start.{IsOpenable, journal_at};
+
+mod giving;
 
 use crate::plain_start::PlainStart;
 use std::marker::Model;
@@ -19,8 +21,9 @@ use tk_keeper::{LISTED_LIMIT, time_of};
 /// Keeps the clocks of a script, and counts the commands that they accept. It lists none, because
 /// no line of a report shows what a journal lists. So a command takes less time than one that is
 /// listed, and no memory.
-#[derive(Drop)]
-pub(crate) struct CountedClocks {
+#[repr(C)]
+#[derive(Clone, Copy)]
+pub struct CountedClocks {
     clock: Clock,
     /// The number of accepted commands, those before the script included.
     count: u64,
@@ -46,6 +49,13 @@ impl Model for CountedClocks {
     } };
 
     ghost invariant = { λ a. a.since ≤ a.count };
+
+    ghost inverse = { λ s. record {
+      clock = s.clock;
+      count = s.count;
+      since = s.since;
+      most = s.most;
+    } };
 }
 
 impl CountedClocks {
@@ -62,6 +72,57 @@ impl CountedClocks {
             since: count,
             most: most_by(keep),
         }
+    }
+
+    /// Begins with clocks that have accepted `count` commands. They accept 1,048,576 more over their
+    /// counter.
+    pub fn of(clock: Clock, count: u64) -> CountedClocks
+        ensures { result ≡ record {
+          clock = clock;
+          count = count;
+          since = count;
+          most = listed_most;
+        } }
+    {
+        CountedClocks {
+            clock,
+            count,
+            since: count,
+            most: LISTED_LIMIT as u64,
+        }
+    }
+
+    /// Returns the clocks.
+    #[inline(always)]
+    pub fn clock(&self) -> &Clock
+        ensures { result.now ≡ self.now.clock }
+    {
+        &self.clock
+    }
+
+    /// Returns the number of accepted commands.
+    #[inline(always)]
+    pub fn count(&self) -> u64
+        ensures { result ≡ self.now.count }
+    {
+        self.count
+    }
+
+    /// Returns the number of commands that were accepted before the present counter, or before the
+    /// clocks began.
+    #[inline(always)]
+    pub fn since(&self) -> u64
+        ensures { result ≡ self.now.since }
+    {
+        self.since
+    }
+
+    /// Returns the most commands that the clocks accept over one counter.
+    #[inline(always)]
+    pub fn most(&self) -> u64
+        ensures { result ≡ self.now.most }
+    {
+        self.most
     }
 
     /// Returns the snapshot of the clocks. Its front is the number of accepted commands.

@@ -1,5 +1,5 @@
 ghost use Rattle.std.specs.Prelude.{◌≡◌};
-ghost use Rattle.tk_report.specs.Fault.{fault_of, fault_of_stamps, fault_of_trace, fault_text};
+ghost use Rattle.tk_report.specs.Fault.{fault_of, fault_of_trace, fault_text};
 ghost use Rattle.tk_report.specs.declared.fault.Fault.TheVariants.{Memory};
 
 use std::alloc::AllocError;
@@ -28,18 +28,6 @@ pub enum Fault {
         /// The number of bytes written, from the beginning of the report or of the trace.
         written: u64,
     },
-}
-
-impl Fault {
-    /// Converts the error of a stamp file into a fault.
-    pub(crate) fn of_stamps(error: ScriptError) -> Fault
-        ensures { result ≡ fault_of_stamps error }
-    {
-        match error {
-            ScriptError::Memory => Fault::Memory,
-            error => Fault::Stamps(error),
-        }
-    }
 }
 
 impl fmt::Display for Fault {

@@ -4,7 +4,7 @@ ghost use Rattle.tk_script.specs.Coming.{IsReady, coming, opened_with};
 ghost use Rattle.tk_script.specs.Grammar.{Fails, Gives, parse_of};
 ghost use Rattle.tk_script.specs.Start.{IsOpenable, journal_at};
 ghost use Rattle.tk_report.specs.Beginnings.{start_of};
-ghost use Rattle.tk_report.specs.Trace.{IsJournalOf, journal_after};
+ghost use Rattle.tk_report.specs.AllRows.{IsJournalOf, journal_after};
 
 use crate::beginning::{Beginning, begin};
 use crate::obeying::{Obeys, obey_all, unless_memory};

@@ -1,5 +1,5 @@
-//! Makes reports of scripts, one line for each record and a second one after a read that differs;
-//! and traces of stamp files, one line for each stamp.
+//! Makes reports of scripts, one line for each record and a second one after a read that differs,
+//! and the clocks after a script.
 //!
 //! | Item | Its meaning |
 //! |---|---|
@@ -11,15 +11,11 @@
 //! | `replay_bounded` | reads a script and writes the report of `report_bounded` |
 //! | `replay_with` | does `replay` or `replay_bounded`, by an optional number of entries to keep |
 //! | `KEEP_LIMIT` | the greatest number of entries to keep; from `tk_keeper` |
-//! | `trace` | reads a script and a stamp file, and writes a clock's value at each stamp |
 //! | `keeper_of`, `keeper_after` | return the clocks after all accepted commands of a script |
-//! | `convert` | makes the lines of stamps from a keeper's clocks |
-//! | `replay_all` | makes the reports of many scripts on several threads |
-//! | `WORKERS_LIMIT` | the greatest number of workers; from `tk_pieces` |
-//! | `ManyError` | says why `replay_all` made no reports |
 //! | `read_to_end` | reads a whole input, up to one byte more than the largest script |
 //! | `write_whole` | writes a text and flushes |
-//! | `Fault` | says why `replay` or `trace` stopped, and how much of the text was written |
+//! | `Fault` | says why a replay or a trace stopped, and how much of the text was written |
+//! | `CountedClocks`, `PlainStart`, `missed_by` | are the clocks of a report that list no command, how they begin, and the test of an expected value |
 //! | `Source`, `Sink` | represent any reader and any writer |
 //!
 //! Units: readings in cycles; times in seconds and nanoseconds; texts and lengths in bytes.
@@ -27,12 +23,9 @@
 
 mod beginning;
 mod checked_report;
-mod converting;
 mod counted_clocks;
 mod fault;
 mod journaling;
-mod many;
-mod many_error;
 mod obeying;
 mod plain_start;
 mod replaying;
@@ -43,20 +36,15 @@ mod sink;
 mod source;
 mod steered_journaling;
 mod steered_reporting;
-mod tracing;
-mod worklist;
 
 pub use checked_report::CheckedReport;
-pub use converting::convert;
+pub use counted_clocks::CountedClocks;
 pub use fault::Fault;
 pub use journaling::{keeper_after, keeper_of};
-pub use many::replay_all;
-pub use many_error::ManyError;
+pub use plain_start::PlainStart;
 pub use replaying::{replay, replay_bounded, replay_with};
-pub use reporting::{report, report_bounded};
+pub use reporting::{missed_by, report, report_bounded};
 pub use row_reporting::report_rows;
 pub use sink::{Sink, write_whole};
 pub use source::{Source, read_to_end};
 pub use tk_keeper::KEEP_LIMIT;
-pub use tk_pieces::WORKERS_LIMIT;
-pub use tracing::trace;

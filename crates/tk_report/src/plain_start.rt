@@ -11,7 +11,7 @@ use tk_script::Opening;
 
 /// Says how clocks begin that no discipline steers.
 #[derive(Clone, Copy)]
-pub(crate) enum PlainStart {
+pub enum PlainStart {
     Opened(Opening),
     Running { clock: Clock, front: u64 },
 }

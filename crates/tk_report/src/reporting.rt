@@ -239,8 +239,8 @@ pub(crate) fn add_look<A: Allocator + Copy>(
     }
 }
 
-/// Returns the expected value, unless it is the time in ns.
-fn missed_by(time: Timespec, expected: Option<u64>) -> Option<u64>
+/// Returns the expected value of a read, unless it is the time in ns.
+pub fn missed_by(time: Timespec, expected: Option<u64>) -> Option<u64>
     requires { IsWritable time }
     ensures { result ≡ missed_if None (nanoseconds time) expected }
 {

@@ -13,4 +13,5 @@ pub mod ComingLemmas
 pub mod GrammarLemmas
 pub mod TextLemmas
 pub mod DigitLemmas
+pub mod UtcLemmas
 pub mod RunningClocks

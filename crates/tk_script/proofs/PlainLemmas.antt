@@ -6,14 +6,14 @@ use Rattle.std.specs.List.{list_any}
 use Rattle.std.proofs.lemmas.Bool.{cases_Bool, cases_eq, eqb-true}
 use Rattle.std.proofs.lemmas.List.{append-nil, get_or-set_other, get_or-set_same, length-set, length-take, length_push, take-append-drop, take_all}
 use Rattle.std.proofs.Math.Seq.{take-length}
-use Rattle.std.proofs.lemmas.List.Folds.{list_any-append, list_any_more}
+use Rattle.std.proofs.lemmas.List.Folds.{list_any-append, list_any_at, list_any_more}
 use Rattle.csv.proofs.RoundTrip.{record-same, start-same}
 use Rattle.csv.specs.Machine.{Read, next_record}
 use Rattle.csv.specs.Reading.{default_config, strip_bom}
 use Rattle.csv.specs.Records.{field_at}
 use Rattle.csv.specs.declared.parser.State.TheVariants as st
-use Rattle.memchr.specs.Find.{IsFirstByte, is_byte, is_byte2}
-use Rattle.tk_script.specs.Plain.{HasFields, IsFirstLine, IsPlain, Lacks, cut_at_commas, cut_after}
+use Rattle.memchr.specs.Find.{IsFirstByte, is_byte, is_byte2, is_byte3}
+use Rattle.tk_script.specs.Plain.{HasFields, IsFirstLine, IsPlain, Lacks, cut_at_commas, cut_after, is_plain_line}
 use Rattle.tk_script.specs.declared.plain.Fields.{Fields}
 
 -- the record of a line, and the text after it
@@ -288,6 +288,27 @@ pub lacks-none : (test : ℕ → Bool) (text : List ℕ) (found : Option ℕ) (n
     → IsFirstByte test text found → is_some found ≡ not none → none ≡ true → Lacks test text
 lacks-none test text None none first e is_none = found-none test text first
 lacks-none test text (Some end) none first e is_none = cc (e, ap not is_none)
+
+none-of : (none : Bool) → false ≡ not none → none ≡ true
+none-of true e = refl
+none-of false e = cc e
+
+some-of : (none : Bool) → true ≡ not none → none ≡ false
+some-of true e = cc e
+some-of false e = refl
+
+-- a line is plain if a search finds none of the three bytes
+pub plain-found : (line : List ℕ) (found : Option ℕ) (none : Bool) →
+    IsFirstByte (is_byte3 34 13 10) line found → is_some found ≡ not none →
+    none ≡ is_plain_line line
+plain-found line None none first e =
+    let lacks : list_any (is_byte3 34 13 10) line ≡ false =
+    found-none (is_byte3 34 13 10) line first in
+    none-of none e ∙ ap not (sym lacks)
+plain-found line (Some at) none (before, passes) e =
+    let some : list_any (is_byte3 34 13 10) line ≡ true =
+    list_any_at (is_byte3 34 13 10) line at 0 before.high passes in
+    some-of none e ∙ ap not (sym some)
 
 -- no line remains
 pub first-none : (text rest : List ℕ)

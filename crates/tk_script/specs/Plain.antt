@@ -1,9 +1,9 @@
 -- Plain texts: their records are lines that are cut at commas.
-use Rattle.std.specs.Prelude.{◌≡◌, ◌<◌, ◌⊎◌, ℕ, List, [], ◌∷◌, ◌++◌, ◌==◌, get_or, length, Bool, false, Option, None, Some, Result, Ok, if◌then◌else◌}
+use Rattle.std.specs.Prelude.{◌≡◌, ◌<◌, ◌⊎◌, ℕ, List, [], ◌∷◌, ◌++◌, ◌==◌, get_or, length, Bool, false, not, Option, None, Some, Result, Ok, if◌then◌else◌}
 use Rattle.std.specs.Borrow.{Bor}
 use Rattle.std.specs.List.{list_any}
 use Rattle.csv.specs.Records.{field_at}
-use Rattle.memchr.specs.Find.{is_byte, is_byte2}
+use Rattle.memchr.specs.Find.{is_byte, is_byte2, is_byte3}
 use Rattle.tk_script.specs.Number.{number_of}
 use Rattle.tk_script.specs.declared.plain.Fields.{Fields}
 use Rattle.tk_script.specs.declared.script_error.ScriptError.{ScriptError}
@@ -15,6 +15,10 @@ Lacks test text = list_any test text ≡ false
 -- a text without quotes and carriage returns
 abbrev pub IsPlain : List ℕ → Type 0
 IsPlain text = Lacks (is_byte2 34 13) text
+
+-- whether a line has no quote, no carriage return and no line feed
+abbrev pub is_plain_line : List ℕ → Bool
+is_plain_line line = not (list_any (is_byte3 34 13 10) line)
 
 -- the remaining fields, after these bytes of the current field
 unfoldable pub cut_after : List ℕ → List ℕ → List (List ℕ)

@@ -2,7 +2,7 @@ ghost use Rattle.std.specs.Prelude.{◌≡◌, ℕ, ◌++◌, List, OnOk, OnErr,
 ghost use Rattle.tk_script.specs.Line.{HasRoom};
 ghost use Rattle.tk_script.specs.Lines.{IsWritable, IsAtLine, at_text};
 
-use crate::calendar::{Calendar, day_and_second, time_of_day};
+use crate::calendar::{Calendar, date_at, day_and_second, time_of_day};
 use crate::line::Line;
 use crate::script_error::ScriptError;
 use std::alloc::Allocator;
@@ -63,6 +63,24 @@ impl<A: Allocator + Copy> Calendar<A> {
         }
         put_at(&mut line, clock, time);
         line.add_to(out)
+    }
+}
+
+impl Line {
+    /// Makes the line of a clock's time, as `line_at` does.
+    pub fn at(clock: ClockId, time: Timespec) -> Line
+        requires { IsWritable time }
+        ensures { IsAtLine clock time result }
+    {
+        let mut line = Line::end();
+        if let ClockId::RealtimeCoarse | ClockId::Realtime = clock {
+            let (day, second) = day_and_second(time.sec.unsigned_abs());
+            line.put(&time_of_day(second, time.nsec));
+            line.put_date(date_at(day));
+            line.put(b",");
+        }
+        put_at(&mut line, clock, time);
+        line
     }
 }
 

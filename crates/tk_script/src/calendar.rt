@@ -94,7 +94,15 @@ fn date_of_day(day: u32) -> Date
     requires { day ≤ 2932896 }
     ensures { epoch_day result ≡ pos day }
 {
-    Date::from_plain(jiff_core::civil::Date::from_unix_epoch_day(i64::from(day)).unwrap())
+    Date::from_plain(date_at(day))
+}
+
+/// Returns this date as jiff_core's, which is plain numbers.
+pub(crate) fn date_at(day: u32) -> jiff_core::civil::Date
+    requires { day ≤ 2932896 }
+    ensures { epoch_day result ≡ pos day }
+{
+    jiff_core::civil::Date::from_unix_epoch_day(i64::from(day)).unwrap()
 }
 
 /// Returns `Thh:mm:ss.nnnnnnnnnZ`.

@@ -1,18 +1,17 @@
 //! Parses the numbers of a discipline, which may follow the running clocks of `openwords`.
 ghost use Rattle.std.specs.Prelude.{◌≡◌};
-ghost use Rattle.tk_script.specs.Cursor.{fields_of};
 ghost use Rattle.tk_script.specs.DisciplineFields as spec;
 
 use crate::fields::{number_at, number8_at, number32_at, signed_at};
-use crate::records::Records;
+use crate::record::Record;
 use crate::script_error::ScriptError;
 use tk_ntp::{DisciplineNumbers, LagNumbers, LeapNumbers, SteeredNumbers, SteeringNumbers};
 
 /// Parses the numbers of a discipline and its lag, the next second and the mark. They may be any
 /// numbers.
 #[tactic(auto, unfolding(crate::specs::DisciplineFields::numbers_of))]
-pub(crate) fn read_numbers(fields: &Records<'_>) -> Result<SteeredNumbers, ScriptError>
-    ensures { result ≡ spec.numbers_of (fields_of fields.now) }
+pub(crate) fn read_numbers<R: Record>(fields: &R) -> Result<SteeredNumbers, ScriptError>
+    ensures { result ≡ spec.numbers_of (R.fields fields.now) }
 {
     Ok(SteeredNumbers {
         steering: SteeringNumbers {
@@ -42,8 +41,8 @@ pub(crate) fn read_numbers(fields: &Records<'_>) -> Result<SteeredNumbers, Scrip
 
 /// Parses the numbers of the plan of a leap second.
 #[tactic(auto, unfolding(crate::specs::DisciplineFields::plan_of))]
-fn read_plan(fields: &Records<'_>) -> Result<LeapNumbers, ScriptError>
-    ensures { result ≡ spec.plan_of (fields_of fields.now) }
+fn read_plan<R: Record>(fields: &R) -> Result<LeapNumbers, ScriptError>
+    ensures { result ≡ spec.plan_of (R.fields fields.now) }
 {
     Ok(LeapNumbers {
         state: number32_at(1, fields, 18)?,

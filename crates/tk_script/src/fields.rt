@@ -1,11 +1,10 @@
 ghost use Rattle.std.specs.Prelude.{◌≡◌, ◌+◌, ◌<◌};
-ghost use Rattle.tk_script.specs.Cursor.{fields_of};
 ghost use Rattle.tk_script.specs.Word.{is_word};
 ghost use Rattle.tk_script.specs.Field as spec;
 
 use crate::names::clock_word;
 use crate::numbers::{number, number8, number32, signed};
-use crate::records::Records;
+use crate::record::Record;
 use crate::script_error::ScriptError;
 use tk_clock::{ClockId, Timespec};
 
@@ -23,23 +22,23 @@ pub(crate) fn has_word(bytes: &[u8], word: &[u8]) -> bool
 }
 
 /// Returns the field at an index, or an empty field after the last one.
-pub(crate) fn field<'a>(fields: &'a Records<'_>, i: usize) -> &'a [u8]
-    ensures { result.now ≡ spec.field (fields_of fields.now) i }
+pub(crate) fn field<'a, R: Record>(fields: &'a R, i: usize) -> &'a [u8]
+    ensures { result.now ≡ spec.field (R.fields fields.now) i }
 {
     fields.get(i).unwrap_or(&[])
 }
 
 /// Parses an unsigned 64-bit number in the record `row`.
-pub(crate) fn number_at(row: u64, fields: &Records<'_>, i: usize) -> Result<u64, ScriptError>
-    ensures { result ≡ spec.number_at row (fields_of fields.now) i }
+pub(crate) fn number_at<R: Record>(row: u64, fields: &R, i: usize) -> Result<u64, ScriptError>
+    ensures { result ≡ spec.number_at row (R.fields fields.now) i }
 {
     number(field(fields, i)).ok_or(ScriptError::Number { row })
 }
 
 /// Parses the reading of a record that has `count` fields.
 #[tactic(auto, unfolding(crate::specs::Field::reading_of))]
-pub(crate) fn reading_of(row: u64, fields: &Records<'_>, count: usize) -> Result<u64, ScriptError>
-    ensures { result ≡ spec.reading_of row (fields_of fields.now) count }
+pub(crate) fn reading_of<R: Record>(row: u64, fields: &R, count: usize) -> Result<u64, ScriptError>
+    ensures { result ≡ spec.reading_of row (R.fields fields.now) count }
 {
     if fields.len() != count {
         return Err(ScriptError::Fields { row });
@@ -48,31 +47,31 @@ pub(crate) fn reading_of(row: u64, fields: &Records<'_>, count: usize) -> Result
 }
 
 /// Parses an unsigned 8-bit number.
-pub(crate) fn number8_at(row: u64, fields: &Records<'_>, i: usize) -> Result<u8, ScriptError>
-    ensures { result ≡ spec.number8_at row (fields_of fields.now) i }
+pub(crate) fn number8_at<R: Record>(row: u64, fields: &R, i: usize) -> Result<u8, ScriptError>
+    ensures { result ≡ spec.number8_at row (R.fields fields.now) i }
 {
     number8(field(fields, i)).ok_or(ScriptError::Number { row })
 }
 
 /// Parses an unsigned 32-bit number.
-pub(crate) fn number32_at(row: u64, fields: &Records<'_>, i: usize) -> Result<u32, ScriptError>
-    ensures { result ≡ spec.number32_at row (fields_of fields.now) i }
+pub(crate) fn number32_at<R: Record>(row: u64, fields: &R, i: usize) -> Result<u32, ScriptError>
+    ensures { result ≡ spec.number32_at row (R.fields fields.now) i }
 {
     number32(field(fields, i)).ok_or(ScriptError::Number { row })
 }
 
 /// Parses a signed 64-bit number.
-pub(crate) fn signed_at(row: u64, fields: &Records<'_>, i: usize) -> Result<i64, ScriptError>
-    ensures { result ≡ spec.signed_at row (fields_of fields.now) i }
+pub(crate) fn signed_at<R: Record>(row: u64, fields: &R, i: usize) -> Result<i64, ScriptError>
+    ensures { result ≡ spec.signed_at row (R.fields fields.now) i }
 {
     signed(field(fields, i)).ok_or(ScriptError::Number { row })
 }
 
 /// Parses seconds, and nanoseconds in the next field.
 #[tactic(auto, unfolding(crate::specs::Field::time_at))]
-pub(crate) fn time_at(row: u64, fields: &Records<'_>, i: usize) -> Result<Timespec, ScriptError>
+pub(crate) fn time_at<R: Record>(row: u64, fields: &R, i: usize) -> Result<Timespec, ScriptError>
     requires { i < 15 }
-    ensures { result ≡ spec.time_at row (fields_of fields.now) i }
+    ensures { result ≡ spec.time_at row (R.fields fields.now) i }
 {
     let sec = signed_at(row, fields, i)?;
     let nsec = number32_at(row, fields, i + 1)?;
@@ -80,8 +79,8 @@ pub(crate) fn time_at(row: u64, fields: &Records<'_>, i: usize) -> Result<Timesp
 }
 
 /// Parses a clock's name.
-pub(crate) fn clock_at(row: u64, fields: &Records<'_>, i: usize) -> Result<ClockId, ScriptError>
-    ensures { result ≡ spec.clock_at row (fields_of fields.now) i }
+pub(crate) fn clock_at<R: Record>(row: u64, fields: &R, i: usize) -> Result<ClockId, ScriptError>
+    ensures { result ≡ spec.clock_at row (R.fields fields.now) i }
 {
     clock_word(field(fields, i)).ok_or(ScriptError::Word { row })
 }

@@ -13,6 +13,8 @@
 //! | `line_at`, `line_differs` | append the line of a read, and the line after a read that differs |
 //! | `Calendar` | appends lines of clocks, and computes the date once for lines of one day |
 //! | `utc` | returns a time as UTC text |
+//! | `is_line`, `start_in`, `row_in` | test and parse one record of a plain text, with no allocation |
+//! | `Line`, `AdjLine` | contain one line of a report, with no allocation |
 //!
 //! Units: readings in cycles; times in seconds and nanoseconds. Records are counted from 1, fields
 //! from 0. No call waits.
@@ -30,8 +32,10 @@ mod line;
 mod lines;
 mod names;
 mod numbers;
+mod one_line;
 mod opening;
 mod plain;
+mod record;
 mod records;
 mod requests;
 mod row;
@@ -41,12 +45,14 @@ mod script;
 mod script_error;
 mod stamps;
 
-pub use adj_line::line_adj;
+pub use adj_line::{AdjLine, line_adj};
 pub use at_lines::line_at;
 pub use calendar::{Calendar, utc};
+pub use line::Line;
 pub use lines::{line_differs, line_no, line_ok, line_open};
 pub use names::clock_word;
 pub use numbers::number;
+pub use one_line::{is_line, row_in, start_in};
 pub use opening::{Opening, Start};
 pub use records::SIZE_LIMIT;
 pub use row::Row;

@@ -1,13 +1,17 @@
 //! Builds one line of a report on the stack, from its end to its beginning, because the first digit
 //! of a number is computed last.
-ghost use Rattle.std.specs.Prelude.{◌≡◌, ◌+◌, ◌<◌, ◌≤◌, ℕ, List, ◌++◌, OnOk, OnErr, IfErr, codes, length, decimal, drop};
+ghost use Rattle.std.specs.Prelude.{◌≡◌, ◌+◌, ◌<◌, ◌≤◌, ℕ, List, [], ◌++◌, OnOk, OnErr, IfErr, codes, length, decimal, drop};
+ghost use Rattle.std.specs.Fmt.{signed_decimal};
+ghost use Rattle.jiff.specs.Words.{date_text};
 ghost use Rattle.tk_clock.specs.Limits.{clock_end};
+ghost use Rattle.tk_script.specs.AdjLine.{number_field};
 ghost use Rattle.tk_script.specs.Line.{HasRoom};
 ghost use Rattle.tk_script.specs.Lines.{IsWritable, time_text};
 
-use crate::digits::nine_digits_of;
+use crate::digits::{nine_digits_of, two_digits_of};
 use crate::script_error::ScriptError;
 use itoa::write_digits;
+use jiff_core::civil::Date;
 use std::alloc::Allocator;
 use std::marker::Model;
 use tk_clock::Timespec;
@@ -15,9 +19,9 @@ use tk_clock::Timespec;
 /// The size of the buffer, in bytes. No line is longer than 85 bytes.
 const ROOM: usize = 96;
 
-/// Contains the part of a line that is already built: its end.
+/// Contains a line of a report, or its end while it is built. It takes no memory from an allocator.
 #[derive(Drop)]
-pub(crate) struct Line {
+pub struct Line {
     bytes: [u8; ROOM],
     /// The index of its first byte in `bytes`.
     start: usize,
@@ -34,7 +38,7 @@ impl Model for Line {
 impl Line {
     /// Starts a line with its end, a line feed.
     #[inline(always)]
-    pub fn end() -> Line
+    pub(crate) fn end() -> Line
         ensures { result ≡ codes "\n" }
     {
         Line {
@@ -43,9 +47,29 @@ impl Line {
         }
     }
 
+    /// Starts a text without a line feed.
+    #[inline(always)]
+    pub(crate) fn empty() -> Line
+        ensures { result ≡ [] }
+    {
+        Line {
+            bytes: [0; ROOM],
+            start: ROOM,
+        }
+    }
+
+    /// Returns the bytes of the line.
+    #[inline(always)]
+    pub fn as_bytes(&self) -> &[u8]
+        ensures text { result.now ≡ self.now }
+        ensures short { length result.now ≤ 96 }
+    {
+        &self.bytes[self.start..]
+    }
+
     /// Prepends a text to the line.
     #[inline(always)]
-    pub fn put(&mut self, text: &[u8])
+    pub(crate) fn put(&mut self, text: &[u8])
         requires { HasRoom (length text.now) self.old }
         ensures text { self.new ≡ text.now ++ self.old }
         ensures more { length self.new ≡ length text.now + length self.old }
@@ -57,7 +81,7 @@ impl Line {
 
     /// Prepends a number in decimal.
     #[inline(always)]
-    pub fn put_number(&mut self, n: u64)
+    pub(crate) fn put_number(&mut self, n: u64)
         requires { HasRoom 20 self.old }
         ensures text { self.new ≡ decimal n ++ self.old }
         ensures more { length self.new ≤ 20 + length self.old }
@@ -67,7 +91,7 @@ impl Line {
 
     /// Prepends two numbers in decimal, with a comma between them.
     #[inline(always)]
-    pub fn put_numbers(&mut self, first: u64, second: u64)
+    pub(crate) fn put_numbers(&mut self, first: u64, second: u64)
         requires { HasRoom 41 self.old }
         ensures text { self.new ≡ decimal first ++ codes "," ++ decimal second ++ self.old }
         ensures more { length self.new ≤ 41 + length self.old }
@@ -77,9 +101,51 @@ impl Line {
         self.put_number(first);
     }
 
+    /// Prepends a comma and a number in decimal.
+    pub(crate) fn put_field(&mut self, n: &i64)
+        requires { HasRoom 22 self.old }
+        ensures text { self.new ≡ number_field n.now ++ self.old }
+        ensures more { length self.new ≤ 22 + length self.old }
+    {
+        self.put_signed(n);
+        self.put(b",");
+    }
+
+    /// Prepends a number in decimal, with its sign if it is negative. A number behind a reference
+    /// has its value in a proof without a test of its range.
+    pub(crate) fn put_signed(&mut self, n: &i64)
+        requires { HasRoom 21 self.old }
+        ensures text { self.new ≡ signed_decimal n.now ++ self.old }
+        ensures more { length self.new ≤ 21 + length self.old }
+    {
+        let n = *n;
+        self.put_number(n.unsigned_abs());
+        if n < 0 {
+            self.put(b"-");
+        }
+    }
+
+    /// Prepends a date, `YYYY-MM-DD`. A year before 0 has a sign and six digits.
+    pub(crate) fn put_date(&mut self, date: Date)
+        requires { HasRoom 13 self.old }
+        ensures text { self.new ≡ date_text date ++ self.old }
+        ensures more { length self.new ≤ 13 + length self.old }
+    {
+        self.put(&two_digits_of(u32::from(date.day)));
+        self.put(b"-");
+        self.put(&two_digits_of(u32::from(date.month)));
+        self.put(b"-");
+        let year = u32::from(date.year.unsigned_abs());
+        self.put(&two_digits_of(year % 100));
+        self.put(&two_digits_of(year / 100));
+        if date.year < 0 {
+            self.put(b"-00");
+        }
+    }
+
     /// Prepends seconds, a dot and nanoseconds.
     #[inline(always)]
-    pub fn put_time(&mut self, time: Timespec)
+    pub(crate) fn put_time(&mut self, time: Timespec)
         requires writable { IsWritable time }
         requires room { HasRoom 30 self.old }
         ensures text { self.new ≡ time_text time ++ self.old }
@@ -108,7 +174,7 @@ impl Line {
 
     /// Appends the line to a report. An allocation failure leaves the report unchanged.
     #[inline(always)]
-    pub fn add_to<A: Allocator>(&self, out: &mut Vec<u8, A>) -> Result<(), ScriptError>
+    pub(crate) fn add_to<A: Allocator>(&self, out: &mut Vec<u8, A>) -> Result<(), ScriptError>
         ensures ok { OnOk result (out.new.items ≡ out.old.items ++ self.now) }
         ensures err { OnErr result (out.new.items ≡ out.old.items) }
         ensures memory { IfErr result (λ e. e ≡ ScriptError.Memory) }

@@ -8,6 +8,60 @@ use std::alloc::Allocator;
 use tk_clock::{Refusal, Timespec};
 use tk_counter::CounterDesc;
 
+impl Line {
+    /// Makes the line of an opening: `open,BITS,MULT,SHIFT`.
+    #[inline(always)]
+    pub fn open(desc: &CounterDesc) -> Line
+        ensures { result ≡ open_line desc.now }
+    {
+        let mut line = Line::end();
+        line.put_number(u64::from(desc.shift()));
+        line.put(b",");
+        line.put_numbers(u64::from(desc.bits()), u64::from(desc.mult()));
+        line.put(b"open,");
+        line
+    }
+
+    /// Makes the line of an accepted command: `ok,NUMBER,SEC.NNNNNNNNN`. `n` is the command's number,
+    /// and `time` is MONOTONIC at its reading, from 0 to 9,223,372,035.999999999 s.
+    #[inline(always)]
+    pub fn ok(n: u64, time: Timespec) -> Line
+        requires { IsWritable time }
+        ensures { result ≡ ok_line n time }
+    {
+        let mut line = Line::end();
+        line.put_time(time);
+        line.put(b",");
+        line.put_number(n);
+        line.put(b"ok,");
+        line
+    }
+
+    /// Makes the line of a refusal: `no,WORD`.
+    #[inline(always)]
+    pub fn no(refusal: Refusal) -> Line
+        ensures { result ≡ no_line refusal }
+    {
+        let mut line = Line::end();
+        line.put(word_of_refusal(refusal));
+        line.put(b"no,");
+        line
+    }
+
+    /// Makes the line of a read that does not give the value that its record states:
+    /// `differs,RECORD,VALUE`. `row` is the record's number, counted from 1, and `value` the stated
+    /// value, in ns.
+    #[inline(always)]
+    pub fn differs(row: u64, value: u64) -> Line
+        ensures { result ≡ differs_line row value }
+    {
+        let mut line = Line::end();
+        line.put_numbers(row, value);
+        line.put(b"differs,");
+        line
+    }
+}
+
 /// Appends the line of an opening: `open,BITS,MULT,SHIFT`.
 ///
 /// # Errors
@@ -18,12 +72,7 @@ pub fn line_open<A: Allocator>(out: &mut Vec<u8, A>, desc: &CounterDesc) -> Resu
     ensures err { OnErr result (out.new.items ≡ out.old.items) }
     ensures memory { IfErr result (λ e. e ≡ ScriptError.Memory) }
 {
-    let mut line = Line::end();
-    line.put_number(u64::from(desc.shift()));
-    line.put(b",");
-    line.put_numbers(u64::from(desc.bits()), u64::from(desc.mult()));
-    line.put(b"open,");
-    line.add_to(out)
+    Line::open(desc).add_to(out)
 }
 
 /// Appends the line of an accepted command: `ok,NUMBER,SEC.NNNNNNNNN`. `n` is the command's number,
@@ -43,12 +92,7 @@ pub fn line_ok<A: Allocator>(
     ensures err { OnErr result (out.new.items ≡ out.old.items) }
     ensures memory { IfErr result (λ e. e ≡ ScriptError.Memory) }
 {
-    let mut line = Line::end();
-    line.put_time(time);
-    line.put(b",");
-    line.put_number(n);
-    line.put(b"ok,");
-    line.add_to(out)
+    Line::ok(n, time).add_to(out)
 }
 
 /// Appends the line of a refusal: `no,WORD`.
@@ -61,10 +105,7 @@ pub fn line_no<A: Allocator>(out: &mut Vec<u8, A>, refusal: Refusal) -> Result<(
     ensures err { OnErr result (out.new.items ≡ out.old.items) }
     ensures memory { IfErr result (λ e. e ≡ ScriptError.Memory) }
 {
-    let mut line = Line::end();
-    line.put(word_of_refusal(refusal));
-    line.put(b"no,");
-    line.add_to(out)
+    Line::no(refusal).add_to(out)
 }
 
 /// Appends the line of a read that does not give the value that its record states:
@@ -83,8 +124,5 @@ pub fn line_differs<A: Allocator>(
     ensures err { OnErr result (out.new.items ≡ out.old.items) }
     ensures memory { IfErr result (λ e. e ≡ ScriptError.Memory) }
 {
-    let mut line = Line::end();
-    line.put_numbers(row, value);
-    line.put(b"differs,");
-    line.add_to(out)
+    Line::differs(row, value).add_to(out)
 }

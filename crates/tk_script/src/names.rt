@@ -47,7 +47,8 @@ pub(crate) fn word_of_refusal(refusal: Refusal) -> &'static [u8]
 
 /// Returns the name of the state in a reply.
 pub(crate) fn word_of_state(state: TimeState) -> &'static [u8]
-    ensures { result.now ≡ state_name state }
+    ensures name { result.now ≡ state_name state }
+    ensures short { length result.now ≤ 5 }
 {
     match state {
         TimeState::Ok => b"ok",

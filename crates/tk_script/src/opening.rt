@@ -1,11 +1,10 @@
 ghost use Rattle.std.specs.Prelude.{◌≡◌, IfOk};
 ghost use Rattle.tk_script.specs.Counters as counters;
-ghost use Rattle.tk_script.specs.Cursor.{fields_of};
 ghost use Rattle.tk_script.specs.Start.{IsOpenable, is_steered};
 ghost use Rattle.tk_script.specs.Opening as spec;
 
 use crate::fields::{field, has_word, number_at, number32_at, time_at};
-use crate::records::Records;
+use crate::record::Record;
 use crate::running_clocks::read_running;
 use crate::script_error::ScriptError;
 use tk_clock::{Clock, Timespec};
@@ -61,8 +60,8 @@ pub(crate) enum Telling {
 
 /// Parses the first record by its keyword.
 #[tactic(auto, unfolding(crate::specs::Opening::start_of))]
-pub(crate) fn read_start(fields: &Records<'_>) -> Result<Start, ScriptError>
-    ensures value { result ≡ spec.start_of (fields_of fields.now) }
+pub(crate) fn read_start<R: Record>(fields: &R) -> Result<Start, ScriptError>
+    ensures value { result ≡ spec.start_of (R.fields fields.now) }
     ensures opens { IfOk result IsOpenable }
 {
     let word = field(fields, 0);
@@ -80,8 +79,8 @@ pub(crate) fn read_start(fields: &Records<'_>) -> Result<Start, ScriptError>
 /// Parses bits, the two numbers that describe the counter, reading, sec and nsec, and hz if there
 /// is one more field.
 #[tactic(auto, unfolding(crate::specs::Opening::opening_of))]
-fn read_opening(telling: Telling, fields: &Records<'_>) -> Result<Start, ScriptError>
-    ensures value { result ≡ spec.opening_of telling (fields_of fields.now) }
+fn read_opening<R: Record>(telling: Telling, fields: &R) -> Result<Start, ScriptError>
+    ensures value { result ≡ spec.opening_of telling (R.fields fields.now) }
     ensures opens { IfOk result IsOpenable }
 {
     if fields.len() != OPENING_FIELDS && fields.len() != OPENING_FIELDS + 1 {
@@ -112,8 +111,8 @@ fn read_opening(telling: Telling, fields: &Records<'_>) -> Result<Start, ScriptE
 }
 
 /// Parses hz. `None` means that the record has no field for it.
-fn read_hz(fields: &Records<'_>) -> Result<Option<u32>, ScriptError>
-    ensures { result ≡ spec.hz_of (fields_of fields.now) }
+fn read_hz<R: Record>(fields: &R) -> Result<Option<u32>, ScriptError>
+    ensures { result ≡ spec.hz_of (R.fields fields.now) }
 {
     if fields.len() == OPENING_FIELDS {
         return Ok(None);

@@ -11,6 +11,7 @@ ghost use Rattle.tk_script.specs.Records.{records_after};
 use crate::fields::MOST_FIELDS;
 use crate::frequent::Frequent;
 use crate::later_fields::field_in_line;
+use crate::record::Record;
 use memchr::{memchr, memchr2};
 
 /// The fields of a line.
@@ -58,6 +59,18 @@ impl<'a> Lines<'a> {
         }
     }
 
+    /// Contains one line, as if it had been read from a text that ends with it.
+    pub(crate) fn of(line: &'a [u8]) -> Lines<'a>
+        ensures { result.line.now ≡ line.now }
+    {
+        let fields = split_at_commas(line);
+        Lines {
+            line,
+            fields,
+            rest: &[],
+        }
+    }
+
     /// Advances to the next line that isn't empty, if there is one, and splits it at its commas.
     pub(crate) fn advance(&mut self) -> bool
         requires { IsPlain self.old.rest.now }
@@ -77,24 +90,6 @@ impl<'a> Lines<'a> {
         true
     }
 
-    /// Returns the number of fields of the line that was read last.
-    pub(crate) fn len(&self) -> usize
-        ensures { result ≡ length (cut_at_commas self.now.line.now) }
-    {
-        self.fields.count
-    }
-
-    /// Returns the field at an index of the line that was read last.
-    pub(crate) fn get(&self, i: usize) -> Option<&'a [u8]>
-        ensures { option_map (λ s. s.now) result ≡ field_at (cut_at_commas self.now.line.now) i }
-    {
-        if i < self.fields.count.min(MOST_FIELDS) {
-            Some(self.fields.first[i])
-        } else {
-            field_in_line(self.line, i)
-        }
-    }
-
     /// Takes the item of the next line, if the line has a frequent form and no fault.
     #[inline(always)]
     pub(crate) fn take<T: Frequent>(&mut self) -> Option<T>
@@ -107,6 +102,23 @@ impl<'a> Lines<'a> {
         };
         self.rest = rest;
         Some(item)
+    }
+}
+
+/// The fields are those of the line that was read last.
+impl Record for Lines<'_> {
+    ghost fields = { λ lines. cut_at_commas lines.line.now };
+
+    fn len(&self) -> usize {
+        self.fields.count
+    }
+
+    fn get(&self, i: usize) -> Option<&[u8]> {
+        if i < self.fields.count.min(MOST_FIELDS) {
+            Some(self.fields.first[i])
+        } else {
+            field_in_line(self.line, i)
+        }
     }
 }
 

@@ -1,13 +1,13 @@
-ghost use Rattle.std.specs.Prelude.{◌≡◌, ◌<◌, ℕ, List, Some, true, length, option_map, IfOk, IfErr, IfSome, IfNone};
+ghost use Rattle.std.specs.Prelude.{◌≡◌, ◌<◌, ℕ, List, Some, true, IfOk, IfErr, IfSome, IfNone};
 ghost use Rattle.csv.specs.Reading.{error_kind};
 ghost use Rattle.csv.specs.Records as csv_records;
-ghost use Rattle.csv.specs.Records.{field_at};
 ghost use Rattle.tk_script.specs.Cursor.{IsCursor, TakesGiving, fields_of, left_in};
 ghost use Rattle.tk_script.specs.Reading.{IsReading, IsWantOfMemory, Takes, left_of};
 ghost use Rattle.tk_script.specs.Records.{records_of};
 
 use crate::frequent::Frequent;
 use crate::plain::{Lines, is_plain};
+use crate::record::Record;
 use crate::script_error::ScriptError;
 use csv::{ByteRecord, Error, Reader, ReaderBuilder};
 use std::alloc::Global;
@@ -63,26 +63,6 @@ impl<'a> Records<'a> {
         }
     }
 
-    /// Returns the number of fields of the record that was read last.
-    pub(crate) fn len(&self) -> usize
-        ensures { result ≡ length (fields_of self.now) }
-    {
-        match self {
-            Records::Quoted(quoted) => quoted.fields.len(),
-            Records::Plain(lines) => lines.len(),
-        }
-    }
-
-    /// Returns the field at an index of the record that was read last.
-    pub(crate) fn get(&self, i: usize) -> Option<&[u8]>
-        ensures { option_map (λ s. s.now) result ≡ field_at (fields_of self.now) i }
-    {
-        match self {
-            Records::Quoted(quoted) => quoted.fields.get(i),
-            Records::Plain(lines) => lines.get(i),
-        }
-    }
-
     /// Takes the item of the next record, if the text is plain and the record has a frequent form
     /// and no fault.
     #[inline(always)]
@@ -94,6 +74,25 @@ impl<'a> Records<'a> {
         match self {
             Records::Quoted(_) => None,
             Records::Plain(lines) => lines.take(),
+        }
+    }
+}
+
+/// The fields are those of the record that was read last.
+impl Record for Records<'_> {
+    ghost fields = { fields_of };
+
+    fn len(&self) -> usize {
+        match self {
+            Records::Quoted(quoted) => quoted.fields.len(),
+            Records::Plain(lines) => lines.len(),
+        }
+    }
+
+    fn get(&self, i: usize) -> Option<&[u8]> {
+        match self {
+            Records::Quoted(quoted) => quoted.fields.get(i),
+            Records::Plain(lines) => lines.get(i),
         }
     }
 }

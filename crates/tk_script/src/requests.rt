@@ -1,18 +1,17 @@
 //! Parses the record of a request to steered clocks (adjtimex(2)).
 ghost use Rattle.std.specs.Prelude.{◌≡◌};
-ghost use Rattle.tk_script.specs.Cursor.{fields_of};
 ghost use Rattle.tk_script.specs.Requests as spec;
 
 use crate::fields::{number32_at, reading_of, signed_at};
-use crate::records::Records;
+use crate::record::Record;
 use crate::row::Row;
 use crate::script_error::ScriptError;
 use tk_ntp::Timex;
 
 /// Parses a reading and a request.
 #[tactic(auto, unfolding(crate::specs::Requests::ask_of))]
-pub(crate) fn read_ask(row: u64, fields: &Records<'_>) -> Result<Row, ScriptError>
-    ensures { result ≡ spec.ask_of row (fields_of fields.now) }
+pub(crate) fn read_ask<R: Record>(row: u64, fields: &R) -> Result<Row, ScriptError>
+    ensures { result ≡ spec.ask_of row (R.fields fields.now) }
 {
     let reading = reading_of(row, fields, 12)?;
     let request = read_request(row, fields)?;
@@ -21,8 +20,8 @@ pub(crate) fn read_ask(row: u64, fields: &Records<'_>) -> Result<Row, ScriptErro
 
 /// Parses the fields of a request, which may have any numbers.
 #[tactic(auto, unfolding(crate::specs::Requests::request_of))]
-fn read_request(row: u64, fields: &Records<'_>) -> Result<Timex, ScriptError>
-    ensures { result ≡ spec.request_of row (fields_of fields.now) }
+fn read_request<R: Record>(row: u64, fields: &R) -> Result<Timex, ScriptError>
+    ensures { result ≡ spec.request_of row (R.fields fields.now) }
 {
     Ok(Timex {
         modes: number32_at(row, fields, 2)?,

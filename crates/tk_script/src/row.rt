@@ -1,12 +1,11 @@
 ghost use Rattle.std.specs.Prelude.{◌≡◌};
-ghost use Rattle.tk_script.specs.Cursor.{fields_of};
 ghost use Rattle.tk_script.specs.Rows as spec;
 ghost use Rattle.tk_script.specs.declared.row.Row.TheVariants.{Act};
 
 use crate::fields::{
     clock_at, field, has_word, number_at, number32_at, reading_of, signed_at, time_at,
 };
-use crate::records::Records;
+use crate::record::Record;
 use crate::requests::read_ask;
 use crate::script_error::ScriptError;
 use tk_clock::{ClockId, Command, Timespec};
@@ -45,8 +44,8 @@ pub enum Row {
 
 /// Parses the record `row` by its keyword. The frequent keywords are tested first.
 #[tactic(auto, unfolding(crate::specs::Rows::row_of))]
-pub(crate) fn read_row(row: u64, fields: &Records<'_>) -> Result<Row, ScriptError>
-    ensures { result ≡ spec.row_of row (fields_of fields.now) }
+pub(crate) fn read_row<R: Record>(row: u64, fields: &R) -> Result<Row, ScriptError>
+    ensures { result ≡ spec.row_of row (R.fields fields.now) }
 {
     let word = field(fields, 0);
     if has_word(word, b"update") {
@@ -85,24 +84,24 @@ fn act(reading: u64, cmd: Command) -> Row
 
 /// Parses a reading and a time.
 #[tactic(auto, unfolding(crate::specs::Rows::timed_of))]
-fn read_timed(row: u64, fields: &Records<'_>) -> Result<(u64, Timespec), ScriptError>
-    ensures { result ≡ spec.timed_of row (fields_of fields.now) }
+fn read_timed<R: Record>(row: u64, fields: &R) -> Result<(u64, Timespec), ScriptError>
+    ensures { result ≡ spec.timed_of row (R.fields fields.now) }
 {
     Ok((reading_of(row, fields, 4)?, time_at(row, fields, 2)?))
 }
 
 /// Parses a reading and a signed number.
 #[tactic(auto, unfolding(crate::specs::Rows::valued_of))]
-fn read_valued(row: u64, fields: &Records<'_>) -> Result<(u64, i64), ScriptError>
-    ensures { result ≡ spec.valued_of row (fields_of fields.now) }
+fn read_valued<R: Record>(row: u64, fields: &R) -> Result<(u64, i64), ScriptError>
+    ensures { result ≡ spec.valued_of row (R.fields fields.now) }
 {
     Ok((reading_of(row, fields, 3)?, signed_at(row, fields, 2)?))
 }
 
 /// Parses a reading and a clock, and the value that is expected, if there is a further field.
 #[tactic(auto, unfolding(crate::specs::Rows::look_of))]
-fn read_look(row: u64, fields: &Records<'_>) -> Result<Row, ScriptError>
-    ensures { result ≡ spec.look_of row (fields_of fields.now) }
+fn read_look<R: Record>(row: u64, fields: &R) -> Result<Row, ScriptError>
+    ensures { result ≡ spec.look_of row (R.fields fields.now) }
 {
     if fields.len() != 3 && fields.len() != 4 {
         return Err(ScriptError::Fields { row });
@@ -118,8 +117,8 @@ fn read_look(row: u64, fields: &Records<'_>) -> Result<Row, ScriptError>
 }
 
 /// Parses the value that a read expects. `None` means that the record has no field for it.
-fn read_expected(row: u64, fields: &Records<'_>) -> Result<Option<u64>, ScriptError>
-    ensures { result ≡ spec.expected_of row (fields_of fields.now) }
+fn read_expected<R: Record>(row: u64, fields: &R) -> Result<Option<u64>, ScriptError>
+    ensures { result ≡ spec.expected_of row (R.fields fields.now) }
 {
     if fields.len() == 3 {
         return Ok(None);
@@ -130,8 +129,8 @@ fn read_expected(row: u64, fields: &Records<'_>) -> Result<Option<u64>, ScriptEr
 
 /// Parses a reading of the present counter, the numbers of the next one, and a reading of that one.
 #[tactic(auto, unfolding(crate::specs::Rows::change_of))]
-fn read_change(row: u64, fields: &Records<'_>) -> Result<Row, ScriptError>
-    ensures { result ≡ spec.change_of row (fields_of fields.now) }
+fn read_change<R: Record>(row: u64, fields: &R) -> Result<Row, ScriptError>
+    ensures { result ≡ spec.change_of row (R.fields fields.now) }
 {
     let reading = reading_of(row, fields, 6)?;
     let bits = number32_at(row, fields, 2)?;

@@ -1,13 +1,12 @@
 //! Parses the record `openwords`, by which a script begins from running clocks.
 ghost use Rattle.std.specs.Prelude.{◌≡◌, ◌≤◌, IfOk};
-ghost use Rattle.tk_script.specs.Cursor.{fields_of};
 ghost use Rattle.tk_script.specs.Start.{IsOpenable, most_front};
 ghost use Rattle.tk_script.specs.RunningClocks as spec;
 
 use crate::discipline_fields::read_numbers;
 use crate::fields::{number_at, number32_at, signed_at};
 use crate::opening::{Start, Telling, counter_of};
-use crate::records::Records;
+use crate::record::Record;
 use crate::script_error::ScriptError;
 use tk_clock::{Clock, SNAPSHOT_WORDS, Snapshot};
 use tk_counter::CounterDesc;
@@ -25,8 +24,8 @@ const FRONT_LIMIT: u64 = 1 << 62;
 
 /// Parses running clocks, and the numbers of their discipline if there are more fields.
 #[tactic(auto, unfolding(crate::specs::RunningClocks::running_of))]
-pub(crate) fn read_running(fields: &Records<'_>) -> Result<Start, ScriptError>
-    ensures value { result ≡ spec.running_of (fields_of fields.now) }
+pub(crate) fn read_running<R: Record>(fields: &R) -> Result<Start, ScriptError>
+    ensures value { result ≡ spec.running_of (R.fields fields.now) }
     ensures opens { IfOk result IsOpenable }
 {
     if fields.len() == UNSTEERED_FIELDS {
@@ -41,8 +40,8 @@ pub(crate) fn read_running(fields: &Records<'_>) -> Result<Start, ScriptError>
 /// Parses running clocks and the numbers of their discipline. A field that isn't a number is the
 /// fault before clocks that can't run.
 #[tactic(auto, unfolding(crate::specs::RunningClocks::steered_of))]
-fn read_steered(fields: &Records<'_>) -> Result<Start, ScriptError>
-    ensures value { result ≡ spec.steered_of (fields_of fields.now) }
+fn read_steered<R: Record>(fields: &R) -> Result<Start, ScriptError>
+    ensures value { result ≡ spec.steered_of (R.fields fields.now) }
     ensures opens { IfOk result IsOpenable }
 {
     let numbers = read_numbers(fields)?;
@@ -56,8 +55,8 @@ fn read_steered(fields: &Records<'_>) -> Result<Start, ScriptError>
 /// Parses bits, mult and shift, the ten words of a snapshot, a frequency and a tick. Returns the
 /// clocks and the number of commands that they have accepted.
 #[tactic(auto, unfolding(crate::specs::RunningClocks::clocks_of))]
-fn read_clocks(fields: &Records<'_>) -> Result<(Clock, u64), ScriptError>
-    ensures value { result ≡ spec.clocks_of (fields_of fields.now) }
+fn read_clocks<R: Record>(fields: &R) -> Result<(Clock, u64), ScriptError>
+    ensures value { result ≡ spec.clocks_of (R.fields fields.now) }
     ensures few { IfOk result (λ found. found.1 ≤ most_front) }
 {
     let bits = number32_at(1, fields, 1)?;
@@ -72,8 +71,8 @@ fn read_clocks(fields: &Records<'_>) -> Result<(Clock, u64), ScriptError>
 
 /// Parses the ten words of a snapshot.
 #[tactic(auto, unfolding(crate::specs::RunningClocks::words_of_fields))]
-fn words_in(fields: &Records<'_>) -> Result<[u64; SNAPSHOT_WORDS], ScriptError>
-    ensures { result ≡ spec.words_of_fields (fields_of fields.now) }
+fn words_in<R: Record>(fields: &R) -> Result<[u64; SNAPSHOT_WORDS], ScriptError>
+    ensures { result ≡ spec.words_of_fields (R.fields fields.now) }
 {
     Ok([
         number_at(1, fields, 4)?,

@@ -4,6 +4,7 @@ ghost use Rattle.tk_script.specs.Grammar.{Gives};
 ghost use Rattle.tk_script.specs.Stamps as spec;
 
 use crate::fields::number_at;
+use crate::record::Record;
 use crate::records::{Records, SIZE_LIMIT};
 use crate::script_error::ScriptError;
 use std::alloc::Global;

@@ -3,7 +3,7 @@ use Rattle.std.proofs.lemmas.Result.{IfOk-weaker}
 use Rattle.tk_clock.specs.Snapshot.{snapshot_of}
 use Rattle.tk_report.specs.Folding.{rule_of}
 use Rattle.tk_report.specs.Report.{change_reply, event, reply_by, reply_line}
-use Rattle.tk_report.proofs.CountedClocks.{snapshot-kept}
+use Rattle.tk_report.proofs.KeptClocks.{snapshot-kept}
 use Rattle.tk_report.proofs.reporting.add_line.Goals as goal
 
 pub returns-in_ok-add_reply-in-Act-clause-ok : goal.returns-in_ok-add_reply-in-Act-clause-ok

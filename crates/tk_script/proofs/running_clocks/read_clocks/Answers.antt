@@ -1,11 +1,10 @@
 use Rattle.std.proofs.Common.{◌∙◌, sym, w64, FitsSigned}
 use Rattle.std.proofs.lemmas.Int.{to_z-of_z}
-use Rattle.tk_script.specs.Cursor.{fields_of}
 use Rattle.tk_script.proofs.RunningClocks.{clocks-read}
 use Rattle.tk_script.proofs.running_clocks.read_clocks.Goals as goal
 
 pub returns-clause-value : goal.returns-clause-value
-returns-clause-value c =
+returns-clause-value g c =
     let frequency = c.in_ok-frequency.frequency in
     let tick = c.in_ok-tick.tick in
     let known = rw c.in_ok-frequency.was at c.signed_at.type_inv in
@@ -15,7 +14,7 @@ returns-clause-value c =
     let made = rw (to_z-of_z w64 frequency fit, to_z-of_z w64 tick fit_tick) at
     c.clocks_from.ensures.value in
     made
-    ∙ sym (clocks-read (fields_of c.args.fields.now) c.in_ok-bits.bits c.in_ok-mult.mult
+    ∙ sym (clocks-read (g.R.Record.fields c.args.fields.now) c.in_ok-bits.bits c.in_ok-mult.mult
     c.in_ok-shift.shift c.in_ok-words.words frequency tick
     c.in_ok-desc.desc
     (sym c.number32_at.ensures ∙ c.in_ok-bits.was)

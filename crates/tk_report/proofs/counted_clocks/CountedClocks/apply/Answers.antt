@@ -5,7 +5,7 @@ use Rattle.tk_clock.specs.Limits.{counted_most}
 use Rattle.tk_keeper.proofs.Commands.{running-accepted}
 use Rattle.tk_report.specs.CountedClocks.{Counted, IsKept}
 use Rattle.tk_report.specs.Report.{event}
-use Rattle.tk_report.proofs.CountedClocks.{IsReplied-accepted, IsReplied-refused, rule-full, rule-room}
+use Rattle.tk_report.proofs.KeptClocks.{IsReplied-accepted, IsReplied-refused, rule-full, rule-room}
 use Rattle.tk_report.proofs.counted_clocks.CountedClocks.apply.Goals as goal
 
 pub returns-then-self : goal.returns-then-self

@@ -1,4 +1,4 @@
-use Rattle.tk_report.proofs.CountedClocks.{IsKept-begun}
+use Rattle.tk_report.proofs.KeptClocks.{IsKept-begun}
 use Rattle.tk_report.proofs.counted_clocks.CountedClocks.begin.Goals as goal
 
 pub returns : goal.returns

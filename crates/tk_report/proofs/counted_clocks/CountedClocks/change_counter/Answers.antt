@@ -3,7 +3,7 @@ use Rattle.std.proofs.lemmas.Result.{err_from_is_err_and}
 use Rattle.tk_clock.specs.declared.refusal.Refusal.TheVariants.{Full}
 use Rattle.tk_clock.specs.Limits.{counted_most}
 use Rattle.tk_report.specs.CountedClocks.{Counted, IsKept}
-use Rattle.tk_report.proofs.CountedClocks.{IsReplied-changed, IsReplied-unchanged, change-full, change-room}
+use Rattle.tk_report.proofs.KeptClocks.{IsReplied-changed, IsReplied-unchanged, change-full, change-room}
 use Rattle.tk_report.proofs.counted_clocks.CountedClocks.change_counter.Goals as goal
 
 pub returns-then-self-ge-COUNTED_LIMIT : goal.returns-then-self-ge-COUNTED_LIMIT

@@ -1,31 +1,14 @@
-use Rattle.std.proofs.Common.{◌≡◌, ◌∙◌, ◌++◌, ℕ, List, refl, ap, sym, pos, unsigned_abs, ◌/◌, ◌%◌, rules, inl, inr, codes, append_assoc}
+use Rattle.std.proofs.Common.{◌≡◌, ◌∙◌, ◌++◌, ℕ, List, refl, ap, unsigned_abs, rules, inl, inr, codes}
 use Rattle.std.specs.Prelude.{◌⊎◌}
 use Rattle.std.proofs.lemmas.Result.{on_ok_weaker}
 use Rattle.tk_clock.specs.declared.clock_id.ClockId.{ClockId}
 use Rattle.tk_clock.specs.declared.clock_id.ClockId.TheVariants.{Realtime, RealtimeCoarse}
 use Rattle.tk_clock.specs.declared.timespec.Timespec.{Timespec}
 use Rattle.tk_script.specs.Lines.{IsAtLine, at_text}
-use Rattle.tk_script.specs.Utc.{IsDateText, IsUtcText, time_part}
+use Rattle.tk_script.specs.Utc.{IsUtcText}
+use Rattle.tk_script.proofs.UtcLemmas.{grouped, joined}
 use Rattle.tk_script.proofs.calendar.Calendar.line_at.Goals as goal
 use Rattle.tk_script.proofs.calendar.Calendar.line_at.Goals.{in-Realtime+in_ok-date_of, in_default}
-
--- the text of a date and the text of a time of day make the UTC text
-joined : (sec nsec seconds day second : ℕ) (date bytes time : List ℕ) → IsDateText day date →
-    bytes ≡ date
-    → time ≡ time_part second nsec → seconds ≡ sec → day ≡ seconds / 86400 →
-    second ≡ seconds % 86400
-    → IsUtcText sec nsec (bytes ++ time)
-joined sec nsec seconds day second date bytes time dated same part n e f =
-    (dated.0, dated.1 ∙ ap pos (rw n at e), rw (same, dated.2, part, f, n) refl)
-
--- a line with UTC text, by the order in which its parts were prepended
-grouped : (clock bytes time line : List ℕ)
-    → line ≡ clock ++ (codes "," ++ (bytes ++ (time ++ codes "\n")))
-    → line ≡ clock ++ codes "," ++ (bytes ++ time) ++ codes "\n"
-grouped clock bytes time line e =
-    e ∙ ap (λ (l : List ℕ). clock ++ (codes "," ++ l)) (sym (append_assoc bytes time (codes "\n")))
-    ∙ sym (append_assoc clock (codes ",") ((bytes ++ time) ++ codes "\n"))
-    ∙ sym (append_assoc (clock ++ codes ",") (bytes ++ time) (codes "\n"))
 
 -- the clocks that count from 1970 have a line with UTC text
 with_utc : (clock : ClockId) (time : Timespec) (old new line utc : List ℕ)

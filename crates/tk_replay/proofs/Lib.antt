@@ -1,0 +1,3 @@
+pub mod Traces
+mod Worked
+pub mod Outcomes

@@ -1,0 +1,10 @@
+pub mod Never
+pub mod Simulated
+pub mod Called
+pub mod SteeredCalls
+pub mod Writable
+pub mod Accepted
+pub mod Sessions
+pub mod Reported
+pub mod Faulty
+pub mod Texts

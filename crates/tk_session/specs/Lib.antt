@@ -1,0 +1,6 @@
+pub mod Fault
+pub mod Told
+pub mod Session
+pub mod Run
+pub mod Texts
+pub mod Whole
