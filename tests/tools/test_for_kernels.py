@@ -1,8 +1,13 @@
 """tools/c/for_kernels.py: the text for kernels does what the library's text does, on another stack."""
 import re
 import subprocess
+import sys
 
 from tools import TOP, Case
+
+sys.path.insert(0, str(TOP / "tools/release_text"))
+import machines  # noqa: E402
+import macros  # noqa: E402
 
 TEXT = TOP / "release/x86_64/tkcore.s"
 FRAME = 128
@@ -101,6 +106,11 @@ class ForKernels(Case):
             restored = names.index("pop")
             self.assertEqual(list(zip(INSERTED, (saved, restored))), lines, section)
             self.assertEqual(1, names.count("ret"), section)
+        # (a function that moved has another size, and states none)
+        sizes, others = (
+            set(re.findall(r"^\w+ (\w+) [Tt] (.*)$", said("nm", "-S", self.room / it), re.M))
+            for it in ("given.o", "kernel.o"))
+        self.assertEqual({it for it in sizes if f".text.{it[1]}" not in moved}, others)
 
     def test_no_access_of_the_kernel_text_needs_an_aligned_stack(self):
         text = self.made(source=TEXT)[1]
@@ -108,6 +118,9 @@ class ForKernels(Case):
         self.assertNotIn(".eh_frame", text)
 
     FUNCTION = "\t.section .text.f,\"ax\",@progbits\nf:\n\tpush   %rbx\n"
+
+    MACROS = "".join(f"{it}\n" for it in macros.defined(machines.X86_64))
+    JUMPS = "\t.section .rodata.f,\"a\",@progbits\n1:\njumps .text.f,"
 
     def refused(self, *lines):
         body = "".join(f"\t{it}\n" for it in lines)
@@ -126,23 +139,29 @@ class ForKernels(Case):
                          self.refused(low, "push   %rcx"))
         self.assertEqual("jmp    g: a function with a red zone is left here",
                          self.refused(low, "jmp    g"))
+        self.assertEqual("jne    g: a function with a red zone is left here",
+                         self.refused(low, "jne    g"))
         self.assertEqual("mov    %rax,%rcx: a function with a red zone saves or restores here",
                          self.refused(low, "pop    %rbx", "mov    %rax,%rcx"))
 
     def test_a_table_must_name_instructions(self):
-        table = "\t.section .rodata.f,\"a\",@progbits\n\t.long .text.f+2 - .\n"
-        code = f"{self.FUNCTION}\tmov    %rax,-0x8(%rsp)\n\tpop    %rbx\n\tret\n{table}"
+        table = f"{self.JUMPS}2\n"
+        code = (f"{self.MACROS}{self.FUNCTION}\tmov    %rax,-0x8(%rsp)\n\tpop    %rbx\n\tret\n"
+                f"{table}")
         self.assertEqual((1, "", "for_kernels: .text.f+2: no instruction begins there\n"),
                          self.made(code))
-        self.assertEqual(0, self.made(code.replace("+2", "+1"))[0])
+        self.assertEqual(0, self.made(code.replace(",2\n", ",1\n"))[0])
+        why = "for_kernels: .long .text.f-.: a place in a function with a red zone\n"
+        code = code.replace(",2\n", ",1\n")
+        self.assertEqual((1, "", why), self.made(f"{code}\t.long .text.f-.\n"))
 
     def test_a_table_leads_to_the_same_instruction_of_a_function_with_a_red_zone(self):
-        table = "\t.section .rodata.f,\"a\",@progbits\n\t.long .text.f+6 - .\n"
-        old, new = self.codes(f"{self.FUNCTION}\tmov    %rax,-0x8(%rsp)\n\tmov    %rax,%rcx\n"
-                              f"\tpop    %rbx\n\tret\n{table}")
+        table = f"{self.JUMPS}6,9\njumps .text.f,1\n"
+        old, new = self.codes(f"{self.MACROS}{self.FUNCTION}\tmov    %rax,-0x8(%rsp)\n"
+                              f"\tmov    %rax,%rcx\n\tpop    %rbx\n\tret\n{table}")
         self.assertEqual(list(INSERTED), [it[0] for it in new.inserted[".text.f"]])
-        third = {(".rodata.f", 0): (".text.f", 2)}
-        self.assertEqual((third, third), (old.tables([".text.f"]), new.tables([".text.f"])))
+        numbers = {(".rodata.f", 4 * at): (".text.f", it) for at, it in enumerate((2, 3, 1))}
+        self.assertEqual((numbers, numbers), (old.tables([".text.f"]), new.tables([".text.f"])))
         self.assertNotEqual(old.entries, new.entries)
 
     def test_the_archive_has_one_section_of_code_and_needs_no_other_file(self):

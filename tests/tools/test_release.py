@@ -104,7 +104,8 @@ class Release(Case):
         crates = {"tk_counter", "tk_clock", "tk_lanes", "tk_line", "tk_ntp", "tk_c"}
         for path in sorted(TOP.glob("release/*/tkcore.s")):
             text = path.read_text(encoding="utf-8")
-            named = set(re.findall(r'\.section "?\.(?:text|rodata)(?:\.unlikely)?\.([\w:]+)', text))
+            head = r'(?:\t\.section "?\.(?:text|rodata)(?:\.unlikely)?\.|(?:function|public) "?)'
+            named = set(re.findall(rf"^{head}([\w:]+)", text, re.M))
             self.assertGreater(len(named), 40)
             # (cst16 contains constants of 16 bytes)
             self.assertEqual([], sorted(it for it in named if not it.startswith(("tkc_", "cst"))

@@ -23,9 +23,10 @@ FRAME = 128  # bytes: the whole red zone
 DOWN, UP = f"\tlea    -{FRAME}(%rsp),%rsp", f"\tlea    {FRAME}(%rsp),%rsp"
 UNALIGNED = {"movaps": "movups", "movapd": "movupd", "movdqa": "movdqu"}
 ANY_PLACE = re.compile(r"mov(u[ps][sd]|dqu|q|d|[hl]p[sd]|s[sd])$|pmov[sz]x|cvt|pinsr|pextr")
-SECTION = re.compile(r'\t\.section ("[^"]*"|[^,\s]+)')
-ENTRY = re.compile(r'\t\.long ("[^"]*"|[^+\s]+)\+(\d+) - \.$')
-LABEL = re.compile(r'("[^"]*"|[^\s:"]+):$')
+# the beginning of a section; macros of tools/release_text begin those of functions
+SECTION = re.compile(r'(?:\t\.section|(function|public)) ("[^"\\]*"|[^,\s\\"]+)')
+TABLE = re.compile(r'jumps ("[^"]*"|[^,\s]+),([\d,]+)$')
+PLACE = re.compile(r'\t\.(?:long|quad) ("[^"]*"|[^\s+-]+)')
 ON_STACK = re.compile(r"(-?0x[0-9a-f]+)?\(%rsp")
 MOVES_STACK = re.compile(r"\t(call|enter|leave)|%[re]?sp$|[^(]%[re]?sp\b(?!,\d|\))")
 
@@ -73,7 +74,7 @@ def framed(lines):
             found.append(UP)
         if word == "push" and not is_saving or is_restoring and word not in ("pop", "ret"):
             raise Refused(f"{line.strip()}: a function with a red zone saves or restores here")
-        if word.startswith("jmp") and not re.search(r'"?\.L|\*%', line):
+        if word[:1] == "j" and not re.search(r" \d+[bf]$|\*%", line):
             raise Refused(f"{line.strip()}: a function with a red zone is left here")
         is_restoring = word == "pop" or is_restoring and not word
         found.append(line if word in ("push", "pop") else raised(line))
@@ -82,7 +83,7 @@ def framed(lines):
 
 def addresses(path, section):
     """Returns the offsets of a section's instructions, in order."""
-    words = ["objdump", "-d", "-z", "--no-show-raw-insn", "-j", section.strip('"'), path]
+    words = ["objdump", "-d", "-z", "--no-show-raw-insn", "-j", section, path]
     said = subprocess.run(words, check=True, capture_output=True, text=True).stdout
     return [int(it[1], 16) for it in re.finditer(r"^ *([0-9a-f]+):\t", said, re.M)]
 
@@ -100,7 +101,7 @@ def labelled(lines, section, path, targets):
 
 
 def label(section, offset):
-    return f'".Lat_{offset}_of_{section.strip(chr(34))}"'
+    return f'".Lat_{offset}_of_{section}"'
 
 
 def sections(text):
@@ -108,36 +109,42 @@ def sections(text):
     found, name = [("", [])], ""
     for line in text.splitlines():
         if is_new := SECTION.match(line):
-            name = is_new[1]
+            name = (".text." if is_new[1] else "") + is_new[2].strip('"')
             found.append((name, []))
         found[-1][1].append(line)
     return found
 
 
-def entries(parts):
-    """Yields the entries of jump tables: the part and the line, the section, the target's offset, and
-    what the entry adds to it. A table begins with its part, and its entries count from there."""
+def tables(parts, moved):
+    """Yields the part and the line of each row of a table for jumps, with the section that it leads
+    to and the offsets there, if that one has a red zone."""
     for part, (_, lines) in enumerate(parts):
-        size = 0
         for at, line in enumerate(lines):
-            if entry := ENTRY.match(line):
-                yield part, at, entry[1], int(entry[2]) - size, size
-            size += 4 if entry else 0
+            row = TABLE.match(line) or PLACE.match(line)
+            if not row or (section := row[1].strip('"')) not in moved:
+                continue
+            if row.re is PLACE:
+                raise Refused(f"{line.strip()}: a place in a function with a red zone")
+            yield part, at, section, [int(it) for it in row[2].split(",")]
+
+
+def without_size(line):
+    """Returns a line of a function that has another size than the text's, with none."""
+    return re.sub(r",\d+$", ",0", line) if SECTION.match(line) and line[0] != "\t" else line
 
 
 def changed(text, path):
     """Returns the text for kernels."""
     parts = [it for it in sections(text) if it[0] != ".eh_frame"]
     moved = {name: set() for name, lines in parts if uses_red_zone(lines)}
-    for part, at, section, offset, size in entries(parts):
-        if section in moved:
-            moved[section].add(offset)
-            parts[part][1][at] = f"\t.long {label(section, offset)}+{size} - ."
+    for part, at, section, offsets in tables(parts, moved):
+        moved[section].update(offsets)
+        parts[part][1][at] = "\t.long " + ",".join(f"{label(section, it)}-1b" for it in offsets)
     found = []
     for name, lines in parts:
         if name in moved and any(map(is_code, lines)):
             lines = framed(labelled(lines, name, path, moved[name]))
-            lines = [it for it in lines if not it.startswith("\t.size")]
+            lines = [without_size(it) for it in lines if not it.startswith("\t.size")]
         found += map(unaligned, lines)
     return "\n".join(found) + "\n"
 

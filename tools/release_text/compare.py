@@ -1,5 +1,6 @@
 # SPDX-License-Identifier: MIT OR Apache-2.0
-"""Compares two object files: each section, relocation and symbol.
+"""Compares two object files: each section, relocation and symbol, and the order of all sections but
+.comment, whose place is the assembler's.
 
 A local symbol is a place in its section, so a relocation may name either. A call of one needs no
 entry of a procedure linkage table.
@@ -64,6 +65,11 @@ def differences(one, other):
         yield from of_section(one, section, other)
     names = {it.name for it in one.kept}
     yield from (f"section {it.name} is too much" for it in other.kept if it.name not in names)
+    names, others = ([it.name for it in found.kept if it.name != elf.COMMENT]
+                     for found in (one, other))
+    if names != others and sorted(names) == sorted(others):
+        at = first_difference(names, others)
+        yield f"section {others[at]} is where {names[at]} should be"
     for symbol in sorted(symbols(one) ^ symbols(other), key=str):
         is_ours = symbol in symbols(one)
         yield f"symbol {symbol.name}: {'missing' if is_ours else 'too much'}: {symbol}"

@@ -7,6 +7,7 @@ PROGRAM, SYMBOLS, RELOCATIONS, NO_BYTES, INITIAL, FINAL, UNWIND = 1, 2, 4, 8, 14
 KEPT = {PROGRAM, NO_BYTES, INITIAL, FINAL, UNWIND}  # the kinds of sections that a text has
 ALLOCATED_EMPTY = {".text", ".data", ".bss"}  # sections that each assembler makes
 STACK = ".note.GNU-stack"
+COMMENT = ".comment"  # gas writes this section from its directives .ident
 WRITE, ALLOC, EXECUTE, MERGE, STRINGS, INFO_LINK = 1, 2, 4, 0x10, 0x20, 0x40
 LOCAL, GLOBAL, WEAK = 0, 1, 2
 OBJECT, FUNCTION, SECTION, FILE = 1, 2, 3, 4

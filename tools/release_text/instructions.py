@@ -23,8 +23,8 @@ Instruction = namedtuple("Instruction", "section at end text target shown")
 
 
 def plain(text):
-    """Returns an instruction without objdump's comment, with one space for more."""
-    return re.sub(r" +", " ", re.sub(r"\s+(#|//) .*$", "", text.strip()))
+    """Returns an instruction without objdump's comment, with one blank after its name only."""
+    return re.sub(r",\s+", ",", re.sub(r"\s+", " ", re.sub(r"\s+(#|//) .*$", "", text.strip())))
 
 
 def assembled(machine, lines, folder):

@@ -55,7 +55,7 @@ class AArch64(Machine):
             return None
         if text.startswith("add"):
             return re.sub(r"#0x[0-9a-f]+", lambda _: f":lo12:{place}", text)
-        return re.sub(r"\[(\w+)(?:, #\d+)?\]", lambda found: f"[{found[1]}, :lo12:{place}]", text)
+        return re.sub(r"\[(\w+)(?:,#\d+)?\]", lambda found: f"[{found[1]},:lo12:{place}]", text)
 
 
 X86_64 = X8664("x86_64", 62, "", "@",
