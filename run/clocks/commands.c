@@ -4,6 +4,7 @@
 #include "waiters.h"
 
 #include "counter.h"
+#include "file_times.h"
 #include "requests.h"
 #include "rows.h"
 #include "saved_words.h"
@@ -64,6 +65,17 @@ static void publish(struct machine *machine)
 		machine_wake(machine);
 }
 
+/* Notes what REALTIME is now, for the times of files. */
+static void note_moment(struct machine *machine, bool is_set)
+{
+	struct tkc_snapshot snapshot;
+
+	if (!machine->shared->has_file_times)
+		return;
+	tkc_ntp_snapshot(&snapshot, &present_clocks(machine->control)->ntp);
+	file_times_note(machine, &snapshot, is_set);
+}
+
 void machine_init_clocks(struct machine *machine, const struct tkc_ntp *clocks)
 {
 	struct tkc_snapshot snapshot;
@@ -73,6 +85,7 @@ void machine_init_clocks(struct machine *machine, const struct tkc_ntp *clocks)
 	tkc_page_init(&machine->shared->page, &snapshot);
 	tkc_page_begin(&machine->shared->page);
 	publish(machine);
+	note_moment(machine, false);
 }
 
 /* After a writer has died, publishes the present clocks again. The caller has
@@ -169,21 +182,29 @@ static bool is_steering(uint32_t command)
 	return command == TKC_CMD_FREQ || command == TKC_CMD_TICK;
 }
 
+static bool are_updates(const struct order *orders, size_t count)
+{
+	while (count && orders[count - 1].command == TKC_CMD_UPDATE)
+		count--;
+	return !count;
+}
+
 /* Applies the orders to a copy of the clocks. */
 enum tkc_code machine_apply(struct machine *machine, const struct order *orders,
 			    size_t count)
 {
 	struct called changed = *present_clocks(machine->control);
 	enum tkc_code code = TKC_OK;
-	bool is_update = true, is_steered = false;
+	bool is_update = are_updates(orders, count), is_steered = false;
 	uint64_t reading;
 
+	if (!is_update)
+		file_times_wait(machine, false);
 	tkc_page_begin(&machine->shared->page);
 	reading = machine_reading(machine->shared);
 	for (size_t i = 0; i < count && !code; i++) {
 		code = tkc_ntp_apply(&changed.ntp, reading, orders[i].command,
 				     orders[i].number, orders[i].nsec);
-		is_update = is_update && orders[i].command == TKC_CMD_UPDATE;
 		is_steered = is_steered || is_steering(orders[i].command);
 	}
 	if (code)
@@ -196,6 +217,7 @@ enum tkc_code machine_apply(struct machine *machine, const struct order *orders,
 	if (!code)
 		switch_clocks(machine, &changed);
 	publish(machine);
+	note_moment(machine, !is_update);
 	atomic_fetch_add(code ? &machine->control->refused
 			      : &machine->control->accepted,
 			 count);
@@ -214,6 +236,8 @@ enum tkc_code machine_adjust(struct machine *machine, struct timex *timex,
 	struct record_row row = { .kind = only_reads ? ROW_ASK : ROW_REQUEST };
 	struct timex in = *timex;
 
+	if (!only_reads)
+		file_times_wait(machine, false);
 	tkc_page_begin(&machine->shared->page);
 	row.reading = machine_reading(machine->shared);
 	row.code = tkc_adjtimex((struct tkc_timex *)timex, state, &changed.ntp,
@@ -226,6 +250,7 @@ enum tkc_code machine_adjust(struct machine *machine, struct timex *timex,
 	publish(machine);
 	if (only_reads)
 		return row.code;
+	note_moment(machine, true);
 	atomic_fetch_add(row.code ? &control->refused : &control->accepted, 1);
 	if (!row.code)
 		machine_wake(machine);

@@ -10,6 +10,8 @@
 #include <pthread.h>
 #include <sys/syscall.h>
 
+enum { WORD_BYTES = 8, PAGE_SIZE = 4096, NO_OPERATION = -1 };
+
 int (*host_gettime)(clockid_t, struct timespec *) = clock_gettime;
 
 int host_gettime_by_call(clockid_t clock, struct timespec *out)
@@ -40,6 +42,29 @@ long host_open(const char *path, int flags, enum clock_file which)
 	long given = file < 0 ? host_ask_file(which) : file;
 
 	return given < 0 ? file : given;
+}
+
+/* rt_sigprocmask reads 8 bytes, and then refuses such an operation. */
+static bool can_read_word(uintptr_t word)
+{
+	return word && host_call(SYS_rt_sigprocmask, NO_OPERATION, (long)word, 0, WORD_BYTES, 0,
+				 0) != -EFAULT;
+}
+
+/* A word of 8 bytes is in one page. */
+bool host_can_read(const void *memory, size_t size)
+{
+	uintptr_t word = (uintptr_t)memory & -(uintptr_t)WORD_BYTES, last;
+
+	if (!size)
+		return true;
+	if (__builtin_add_overflow((uintptr_t)memory, size - 1, &last))
+		return false;
+	for (; word <= last; word = (word | (PAGE_SIZE - 1)) + 1) {
+		if (!can_read_word(word))
+			return false;
+	}
+	return true;
 }
 
 uint64_t host_nanos(clockid_t clock)

@@ -4,6 +4,7 @@
 #define HOST_H
 
 #include <stdbool.h>
+#include <stddef.h>
 #include <stdint.h>
 #include <sys/types.h>
 #include <time.h>
@@ -47,6 +48,10 @@ static inline long host_call(long number, long a, long b, long c, long d, long e
 			 : "rcx", "r11", "memory");
 	return result;
 }
+
+/* Returns whether the kernel could read memory whose address a program has passed to a call. It
+ * doesn't set errno. */
+bool host_can_read(const void *memory, size_t size);
 
 /* Returns the host's clock in ns. */
 uint64_t host_nanos(clockid_t clock);

@@ -31,8 +31,9 @@ static void *map_file(const char *folder, enum clock_file which, size_t size)
 
 	if (file < 0)
 		return NULL;
-	if (!fstat(file, &status) && (size_t)status.st_size >= size)
-		memory = mmap(NULL, size,
+	if (!host_call(SYS_fstat, file, (long)&status, 0, 0, 0, 0) &&
+	    (size_t)status.st_size >= size)
+		memory = mmap(NULL, (size_t)status.st_size,
 			      PROT_READ | (which == FILE_PAGE ? 0 : PROT_WRITE),
 			      MAP_SHARED, file, 0);
 	close(file);

@@ -16,7 +16,7 @@
 #include <tkcore_page.h>
 
 enum {
-	MACHINE_LAYOUT = 0x746b7206,
+	MACHINE_LAYOUT = 0x746b7207,
 	WAITERS_MOST = 32768,
 };
 
@@ -51,6 +51,20 @@ struct peers {
 };
 
 /*
+ * With --file-times: what the clocks' REALTIME was when the host's had a value, in ns, and between
+ * two such moments it went on with the counter. One is written before `count` counts it. `stated`
+ * contains times to which programs have set files, at places that they choose by themselves.
+ */
+enum { MOMENTS_MOST = 1 << 20, STATED_MOST = 1 << 16 };
+struct file_times {
+	_Atomic uint32_t count;
+	struct moment {
+		_Atomic int64_t host, real;
+	} of[MOMENTS_MOST];
+	_Atomic int64_t stated[STATED_MOST];
+};
+
+/*
  * What every process reads. A reading of the counter is
  * (first + ((host - base) * scale >> scale_shift)) & mask, where host is the
  * host's MONOTONIC_RAW in ns, or the TSC. With COUNTER_SLEEPS it is `cycles`.
@@ -59,7 +73,7 @@ struct shared_page {
 	uint32_t layout, kind; /* enum counter_kind */
 	uint64_t base, scale, mask, first;
 	uint32_t scale_shift;
-	bool denies_set, has_stamps;
+	bool denies_set, has_stamps, has_file_times;
 	bool has_filter; /* tkrun answers system calls, and counts the programs */
 	bool calls_host; /* the vDSO can't read the host's clocks */
 	double nanos_per_cycle; /* of the host */
@@ -76,6 +90,7 @@ struct shared_page {
 	_Atomic int32_t leap;
 	_Alignas(64) _Atomic uint64_t cycles;
 	_Alignas(64) _Atomic uint32_t generation; /* who isn't listed looks again */
+	_Alignas(64) struct file_times file_times[]; /* one with --file-times, or none */
 };
 
 /* The signal by which tkrun ends a wait for something that isn't only a time. */
@@ -123,6 +138,7 @@ enum host_wait {
 	HOST_MESSAGES,
 	HOST_FUTEX,
 	HOST_ASYNCHRONOUS,
+	HOST_FILES, /* there is no place for a moment of --file-times */
 	HOST_VDSO, /* its functions may be read, though they aren't waits */
 	HOST_WAITS,
 };

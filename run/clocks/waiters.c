@@ -180,7 +180,9 @@ uint64_t waiters_space(void)
 {
 	struct stat status;
 
-	return stat("/proc/self/ns/pid", &status) ? 0 : status.st_ino;
+	return host_call(SYS_stat, (long)"/proc/self/ns/pid", (long)&status, 0, 0, 0, 0)
+		       ? 0
+		       : status.st_ino;
 }
 
 bool waiters_are_found(const struct machine *machine)

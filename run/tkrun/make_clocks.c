@@ -79,10 +79,11 @@ static void *make_file(const char *folder, const char *name, size_t size,
 static bool make_files(struct node *node)
 {
 	struct machine *machine = &node->machine;
+	size_t more = node->options.has_file_times ? sizeof(*machine->shared->file_times) : 0;
 
 	chmod(node->folder, 0755);
 	machine->shared = make_file(node->folder, "page",
-				    sizeof(*machine->shared), 0644);
+				    sizeof(*machine->shared) + more, 0644);
 	machine->control = make_file(node->folder, "control",
 				     sizeof(*machine->control), 0600);
 	return machine->shared && machine->control;
@@ -223,6 +224,7 @@ static void open_machine(const struct run *run, struct node *node, double host_h
 	shared->node = (uint32_t)(node - run->nodes);
 	shared->denies_set = node->options.denies_set;
 	shared->has_stamps = node->options.has_stamps;
+	shared->has_file_times = node->options.has_file_times;
 	shared->calls_host = run->calls_host;
 	machine_init_lock(node->machine.control);
 	shared->base = first ? first->machine.shared->base

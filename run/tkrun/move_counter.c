@@ -6,6 +6,8 @@
 #include "moving.h"
 #include "net.h"
 
+#include "clocks/file_times.h"
+
 #include <stdlib.h>
 #include <sys/syscall.h>
 
@@ -231,6 +233,7 @@ static bool all_wait(struct run *run)
 /* Moves all counters, with their orders and the steps of their walks. */
 static void move_all(struct run *run, uint64_t common)
 {
+	file_times_wait(&run->nodes->machine, true);
 	run->elapsed = common;
 	for (size_t i = 0; i < run->count; i++)
 		move_node(&run->nodes[i], common);

@@ -132,6 +132,7 @@ static void set_flag(struct options *o, const char *name)
 	o->has_readers |= !strcmp(name, "readers");
 	o->denies_set |= !strcmp(name, "deny-set");
 	o->has_stamps |= !strcmp(name, "stamps");
+	o->has_file_times |= !strcmp(name, "file-times");
 	o->is_static |= !strcmp(name, "static");
 	o->is_lax |= !strcmp(name, "lax");
 	o->is_quiet |= !strcmp(name, "quiet");
@@ -260,7 +261,7 @@ void parse_options(int count, char **words, struct options *options)
 		{ "read-cost", 1, 0, 0 },
 		{ "step-after-reads", 1, 0, 0 },
 		{ "link", 1, 0, 0 },
-		{ "seed", 1, 0, 0 },
+		{ "seed", 1, 0, 0 },	  { "file-times", 0, 0, 0 },
 		{ 0, 0, 0, 0 },
 	};
 	int letter, index;

@@ -60,7 +60,7 @@ struct options {
 	uint32_t read_step_count;
 	bool limits_reads;   /* --reads is there */
 	bool has_readers;    /* the record says who made each read */
-	bool is_checked, denies_set, has_stamps, is_quiet, is_static, is_lax;
+	bool is_checked, denies_set, has_stamps, has_file_times, is_quiet, is_static, is_lax;
 	char **program;
 	const char *name; /* of a node, or NULL */
 	double wander_ppm; /* of a node */

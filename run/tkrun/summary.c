@@ -23,6 +23,8 @@ static void print_host_waits(uint32_t waits)
 			"FUTEX_WAIT_REQUEUE_PI waited by the host's time",
 		[HOST_ASYNCHRONOUS] =
 			"io_uring or io_getevents waits by the host's time",
+		[HOST_FILES] =
+			"newer files have wrong times: the clocks moved too often",
 		[HOST_VDSO] =
 			"a program that another one traces may have read the host's clocks by its vDSO",
 	};

@@ -31,6 +31,7 @@ static const char USAGE[] =
 	"  --check                   replays the record by tkcore, and compares\n"
 	"  --deny-set                calls that set the clocks get EPERM\n"
 	"  --stamps                  converts the kernel's stamps of packets\n"
+	"  --file-times              converts the times of files\n"
 	"  --log FILE                writes a line for each call that sets the clocks\n"
 	"  --node NAME[,OPTION=VALUE]..\n"
 	"                            a machine with its own clocks, any number: `tkrun node` runs\n"

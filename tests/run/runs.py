@@ -5,6 +5,7 @@ import os
 import pathlib
 import random
 import re
+import select
 import shutil
 import signal
 import socket
@@ -126,6 +127,17 @@ class RunTest(unittest.TestCase):
         self.addCleanup(limit.cancel)
         return process
 
+    def check_holder(self, *words):
+        """Runs a program that is stopped while it has the lock of its clocks: tkrun names it."""
+        run = self.begin(TKRUN, "--quiet", *words, program("held"), stderr=subprocess.PIPE)
+        process = int(run.stdout.readline())
+        named = select.select([run.stderr], [], [], 100)[0] and run.stderr.readline()
+        os.kill(process, signal.SIGCONT)
+        self.assertEqual(run.communicate(timeout=100), ("", ""))
+        self.assertEqual((run.returncode, named), (0, (
+            f"tkrun: 'held' (process {process}) is stopped while it has the lock of the "
+            "clocks: all others wait for it\n")))
+
     def start(self, *arguments, env=None):
         """Runs tkrun with these arguments."""
         return call([TKRUN, *map(str, arguments)], env={**os.environ, **(env or {})})
@@ -133,7 +145,7 @@ class RunTest(unittest.TestCase):
     def run_on(self, *arguments, status=0):
         """Runs tkrun quietly, and returns the program's output."""
         run = self.start("--quiet", *arguments)
-        self.assertEqual((run.returncode, run.stderr), (status, ""))
+        self.assertEqual((run.returncode, run.stderr), (status, ""), run.stdout)
         return run.stdout
 
     def share(self):

@@ -5,7 +5,8 @@ _tkrun()
     local word=${COMP_WORDS[COMP_CWORD]} before=${COMP_WORDS[COMP_CWORD - 1]} at
     local options='--counter --hz --bits --maxsec --error-ppm --speed --read-cost --start --ahead
         --uptime --step-after-reads --script --record --every --reads --readers --check --deny-set
-        --stamps --log --node --link --seed --plan --lax --static --quiet --help --version --'
+        --stamps --file-times --log --node --link --seed --plan --lax --static --quiet --help
+        --version --'
     for ((at = 1; at < COMP_CWORD; at++)); do
         if [ "${COMP_WORDS[at]}" = -- ]; then
             if ((at + 1 < COMP_CWORD)); then
