@@ -41,7 +41,8 @@ EXPORT int bind(int file, __CONST_SOCKADDR_ARG to, socklen_t length)
 	const struct sockaddr *name = to.__sockaddr__;
 	union socket_name own;
 
-	if (!peers || !peers->binds_own || !name || !put_own(file, name, length, &own))
+	if (!peers || !peers->binds_own || !net_can_read_name(name, length) ||
+	    !put_own(file, name, length, &own))
 		return REAL(bind)(file, to, length);
 	return REAL(bind)(file, (struct sockaddr *)&own, length);
 }

@@ -99,7 +99,7 @@ static uint32_t server_of(uint32_t address)
 EXPORT int getpeername(int file, __SOCKADDR_ARG address, socklen_t *restrict length)
 {
 	union socket_name peer = { 0 };
-	socklen_t size = sizeof(peer), room = length ? *length : 0;
+	socklen_t size = sizeof(peer), room = host_can_read(length, sizeof(*length)) ? *length : 0;
 	int result = REAL(getpeername)(file, address, length);
 	uint32_t found, *place = &peer.four.sin_addr.s_addr;
 

@@ -12,16 +12,36 @@
 /* The parts of a message that the kernel takes, without two that tkrun needs. */
 enum { TEXTS_MOST = UIO_MAXIOV - 2 };
 
+/* Returns whether the kernel could read a message, apart from its name and its bytes. If not, its
+ * call returns the error. */
+static bool can_read(const struct msghdr *message)
+{
+	return host_can_read(message, sizeof(*message)) && message->msg_iovlen <= UIO_MAXIOV &&
+	       host_can_read(message->msg_iov,
+			     message->msg_iovlen * sizeof(*message->msg_iov)) &&
+	       host_can_read(message->msg_control, message->msg_controllen < CONTROL_MOST
+							   ? message->msg_controllen
+							   : CONTROL_MOST);
+}
+
+/* Returns the bytes of a message's name that the kernel reads, unless it refuses the name. */
+static socklen_t name_length(const struct msghdr *message)
+{
+	const int most = sizeof(struct sockaddr_storage);
+
+	return (int)message->msg_namelen < most ? message->msg_namelen : (socklen_t)most;
+}
+
 /* Returns the address of a node to which a socket of UDP sends a message, or 0. */
 static uint32_t receiver_of(int file, const struct msghdr *message)
 {
 	struct sockaddr_storage peer;
 	socklen_t length = sizeof(peer);
 
-	if (!net_peers() || net_type(file) != SOCK_DGRAM)
+	if (!net_peers() || net_type(file) != SOCK_DGRAM || !can_read(message))
 		return 0;
-	if (message->msg_name)
-		return net_address(message->msg_name, message->msg_namelen);
+	if (message->msg_name && message->msg_namelen)
+		return net_address(message->msg_name, name_length(message));
 	if (host_call(SYS_getpeername, file, (long)&peer, (long)&length, 0, 0, 0))
 		return 0;
 	return net_address((struct sockaddr *)&peer, length);
@@ -106,16 +126,32 @@ EXPORT ssize_t sendmsg(int file, const struct msghdr *message, int flags)
 	return send_beside(file, message, flags);
 }
 
+/* Stores the length of a datagram that was sent. If the kernel couldn't, returns false with errno. */
+static bool store_length(int file, unsigned int *place, ssize_t length)
+{
+	socklen_t size = sizeof(*place);
+
+	if (host_call(SYS_getsockopt, file, SOL_SOCKET, SO_TYPE, (long)place, (long)&size, 0) ==
+	    -EFAULT) {
+		net_refuse(EFAULT);
+		return false;
+	}
+	*place = (unsigned int)length;
+	return true;
+}
+
 EXPORT int sendmmsg(int file, struct mmsghdr *messages, unsigned int count, int flags)
 {
 	ssize_t result;
 
+	if (!net_peers() || !count)
+		return REAL(sendmmsg)(file, messages, count, flags);
+	count = count < UIO_MAXIOV ? count : UIO_MAXIOV;
 	for (unsigned int i = 0; i < count; i++) {
-		if (!net_peers() || !send_over(file, &messages[i].msg_hdr, flags, &result))
+		if (!send_over(file, &messages[i].msg_hdr, flags, &result))
 			result = send_beside(file, &messages[i].msg_hdr, flags);
-		if (result < 0)
+		if (result < 0 || !store_length(file, &messages[i].msg_len, result))
 			return i ? (int)i : -1;
-		messages[i].msg_len = (unsigned int)result;
 	}
 	return (int)count;
 }
@@ -130,11 +166,13 @@ EXPORT ssize_t sendto(int file, const void *bytes, size_t length, int flags,
 				  .msg_namelen = name ? to_length : 0,
 				  .msg_iov = &text,
 				  .msg_iovlen = 1 };
+	/* the kernel refuses a name of no bytes or of too many, which it takes from sendmsg */
+	bool may_go_over = !name || (to_length && to_length <= sizeof(struct sockaddr_storage));
 	ssize_t result;
 
 	if (flags & MSG_FASTOPEN && net_address(name, to_length))
 		return net_refuse(EOPNOTSUPP);
-	if (net_peers() && send_over(file, &message, flags, &result))
+	if (may_go_over && net_peers() && send_over(file, &message, flags, &result))
 		return result;
 	result = REAL(sendto)(file, bytes, length, flags, to, to_length);
 	if (result >= 0 && name)
@@ -164,13 +202,15 @@ EXPORT ssize_t write(int file, const void *bytes, size_t length)
 	return REAL(write)(file, bytes, length);
 }
 
+/* The kernel's call sends no datagram without bytes. */
 EXPORT ssize_t writev(int file, const struct iovec *texts, int count)
 {
 	const struct msghdr message = { .msg_iov = (struct iovec *)texts,
 					.msg_iovlen = count < 0 ? 0 : (size_t)count };
 	ssize_t result;
 
-	if (net_peers() && count <= UIO_MAXIOV && send_over(file, &message, 0, &result))
+	if (net_peers() && count <= UIO_MAXIOV && can_read(&message) && length_of(&message) &&
+	    send_over(file, &message, 0, &result))
 		return result;
 	return REAL(writev)(file, texts, count);
 }

@@ -37,6 +37,10 @@ uint32_t net_node(void);
 uint32_t net_address(const struct sockaddr *name, socklen_t length);
 bool net_is_own(const struct sockaddr *name, socklen_t length);
 
+/* Returns whether the kernel could read the name of a socket. If not, its call returns the
+ * error. */
+bool net_can_read_name(const struct sockaddr *name, socklen_t length);
+
 /* Returns the type of a socket, such as SOCK_DGRAM, or -1. It keeps errno. */
 int net_type(int file);
 

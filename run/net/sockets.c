@@ -6,6 +6,11 @@
 
 #include <string.h>
 
+bool net_can_read_name(const struct sockaddr *name, socklen_t length)
+{
+	return length <= sizeof(struct sockaddr_storage) && host_can_read(name, length);
+}
+
 /* Returns the address of IPv4 in an address of IPv6, or 0. */
 static uint32_t mapped_address(const struct sockaddr_in6 *six)
 {
@@ -17,9 +22,11 @@ static uint32_t mapped_address(const struct sockaddr_in6 *six)
 	return address;
 }
 
-/* Returns the address of IPv4 that a name has, or 0. */
+/* Returns the address of IPv4 that a name has, or 0. A name that the kernel refuses has none. */
 static uint32_t address_in(const struct sockaddr *name, socklen_t length)
 {
+	if (!net_can_read_name(name, length))
+		return 0;
 	if (length >= sizeof(struct sockaddr_in) && name->sa_family == AF_INET)
 		return ((const struct sockaddr_in *)name)->sin_addr.s_addr;
 	if (length >= sizeof(struct sockaddr_in6) && name->sa_family == AF_INET6)

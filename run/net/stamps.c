@@ -23,7 +23,9 @@ static uint32_t asked_stamps(int file, const struct msghdr *message)
 	for (struct cmsghdr *part = parts.msg_control ? CMSG_FIRSTHDR(&parts) : NULL; part;
 	     part = CMSG_NXTHDR(&parts, part)) {
 		if (part->cmsg_level == SOL_SOCKET && part->cmsg_type == SO_TIMESTAMPING_OLD &&
-		    part->cmsg_len >= CMSG_LEN(sizeof(flags)))
+		    part->cmsg_len >= CMSG_LEN(sizeof(flags)) &&
+		    CMSG_DATA(part) + sizeof(flags) <=
+			    (unsigned char *)parts.msg_control + parts.msg_controllen)
 			memcpy(&flags, CMSG_DATA(part), sizeof(flags));
 	}
 	return flags & SOF_TIMESTAMPING_TX_RECORD_MASK;

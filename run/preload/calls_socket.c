@@ -80,7 +80,7 @@ int set_no_delay(struct machine *m, int file, const void *value,
 {
 	int wanted, one = 1, result;
 
-	if (!has_no_delays(m) || !value || length < sizeof(wanted))
+	if (!has_no_delays(m) || length < sizeof(wanted) || !host_can_read(value, sizeof(wanted)))
 		return REAL(setsockopt)(file, IPPROTO_TCP, TCP_NODELAY, value,
 					length);
 	memcpy(&wanted, value, sizeof(wanted));

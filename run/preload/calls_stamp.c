@@ -15,7 +15,7 @@
 #include <sys/time.h>
 
 /* Returns whether SO_TIMESTAMPING is to stamp what arrives and what is sent, by the kernel's clock,
- * and nothing else. */
+ * and nothing else. A value that can't be read is left to the kernel. */
 static bool asks_for_kernel(const void *value, socklen_t length)
 {
 	const uint32_t known = SOF_TIMESTAMPING_TX_SOFTWARE | SOF_TIMESTAMPING_RX_SOFTWARE |
@@ -23,8 +23,10 @@ static bool asks_for_kernel(const void *value, socklen_t length)
 			       SOF_TIMESTAMPING_OPT_CMSG | SOF_TIMESTAMPING_OPT_TSONLY;
 	uint32_t flags;
 
-	if (!value || length < sizeof(flags))
+	if (length < sizeof(flags))
 		return false;
+	if (!host_can_read(value, sizeof(flags)))
+		return true;
 	memcpy(&flags, value, sizeof(flags));
 	return !(flags & ~known);
 }
@@ -89,8 +91,8 @@ static void convert_part(struct machine *m, struct cmsghdr *part)
 	struct timespec stamp;
 	struct timeval micros;
 
-	if (part->cmsg_level != SOL_SOCKET)
-		return;
+	if (part->cmsg_level != SOL_SOCKET || part->cmsg_len < CMSG_LEN(sizeof(stamp)))
+		return; /* or the program's memory has no space for a whole one */
 	if (part->cmsg_type == SO_TIMESTAMPNS_OLD || part->cmsg_type == SO_TIMESTAMPING_OLD) {
 		memcpy(&stamp, CMSG_DATA(part), sizeof(stamp));
 		stamp = convert(m, &stamp);

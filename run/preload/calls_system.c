@@ -7,11 +7,13 @@
 
 #include <stdarg.h>
 #include <sys/socket.h>
+#include <sys/stat.h>
 #include <sys/syscall.h>
 #include <sys/time.h>
 #include <sys/timerfd.h>
 #include <sys/timex.h>
 #include <unistd.h>
+#include <utime.h>
 
 long result_of(long result)
 {
@@ -40,6 +42,16 @@ MAKE(setsockopt, (int)a[0], (int)a[1], (int)a[2], (const void *)a[3], (socklen_t
 MAKE(recvmsg, (int)a[0], (struct msghdr *)a[1], (int)a[2])
 MAKE(recvmmsg, (int)a[0], (struct mmsghdr *)a[1], (unsigned int)a[2], (int)a[3],
      (struct timespec *)a[4])
+
+/* The times of files. */
+MAKE(stat, (const char *)a[0], (struct stat *)a[1])
+MAKE(lstat, (const char *)a[0], (struct stat *)a[1])
+MAKE(fstat, (int)a[0], (struct stat *)a[1])
+MAKE(fstatat, (int)a[0], (const char *)a[1], (struct stat *)a[2], (int)a[3])
+MAKE(statx, (int)a[0], (const char *)a[1], (int)a[2], (unsigned int)a[3], (struct statx *)a[4])
+MAKE(utime, (const char *)a[0], (const struct utimbuf *)a[1])
+MAKE(utimes, (const char *)a[0], (const struct timeval *)a[1])
+MAKE(futimesat, (int)a[0], (const char *)a[1], (const struct timeval *)a[2])
 
 /* The alarm, and timers that are files. */
 MAKE(alarm, (unsigned int)a[0])
@@ -113,6 +125,15 @@ static system_call *const CALLS[] = {
 	CALL(setsockopt),
 	CALL(recvmsg),
 	CALL(recvmmsg),
+	CALL(stat),
+	CALL(lstat),
+	CALL(fstat),
+	[SYS_newfstatat] = make_fstatat,
+	CALL(statx),
+	CALL(utime),
+	CALL(utimes),
+	CALL(futimesat),
+	CALL(utimensat),
 	CALL(io_uring_setup),
 	CALL(io_getevents),
 	CALL(io_pgetevents),

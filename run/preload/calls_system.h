@@ -27,6 +27,6 @@ system_call make_nanosleep, make_clock_nanosleep, make_poll, make_ppoll,
 	make_select, make_pselect6, make_epoll_wait, make_epoll_pwait,
 	make_epoll_pwait2, make_rt_sigtimedwait, make_mq_timedreceive,
 	make_mq_timedsend, make_semtimedop, make_futex, make_futex_waitv,
-	make_capget, make_capset, make_prctl;
+	make_capget, make_capset, make_prctl, make_utimensat;
 
 #endif

@@ -84,6 +84,7 @@ static bool read_thread(const struct tree *tree, int32_t process, int32_t thread
 		return false;
 	state = status_state(status);
 	sleeps = status_number(status, "voluntary_ctxt_switches", 10);
+	/* a thread in state X still runs: the kernel has not signalled the parent yet */
 	*out = (struct thread_state){
 		.thread = thread,
 		.process = process,
@@ -92,7 +93,7 @@ static bool read_thread(const struct tree *tree, int32_t process, int32_t thread
 		.switches = sleeps + status_number(status,
 						   "nonvoluntary_ctxt_switches",
 						   10),
-		.is_waiting = state && strchr("STtZXD", state) &&
+		.is_waiting = state && strchr("STtZD", state) &&
 			      !is_followed(state, status),
 		.has_wake = status_handles_wake(status),
 		.call = -1,

@@ -97,31 +97,63 @@ static void each_member(int epoll, void (*call)(const struct member *, void *), 
 	host_call(SYS_close, file, 0, 0, 0, 0, 0);
 }
 
-/* An event of a wait, and whether its file is full. */
+/* The files of an epoll with EPOLLONESHOT that wait for space. When the kernel has reported one, it
+ * no longer says what the file waits for. */
+struct once {
+	struct member members[EVENTS_MOST];
+	int count;
+};
+
+/* Returns the place of a file, or the number of all. */
+static int place_of(const struct once *once, int file)
+{
+	int place = 0;
+
+	while (place < once->count && once->members[place].file != file)
+		place++;
+	return place;
+}
+
+/* An event of a wait, whether its file is full, and the files that were reported once. */
 struct wanted {
 	uint64_t data;
 	bool is_full;
+	int epoll;
+	const struct once *once;
 };
 
 static void find_full(const struct member *member, void *what)
 {
 	struct wanted *wanted = what;
+	bool is_once = place_of(wanted->once, member->file) < wanted->once->count;
 
-	if (member->event.data.u64 != wanted->data || !(member->event.events & EPOLLOUT) ||
-	    !file_is_full(member->file))
+	if (member->event.data.u64 != wanted->data ||
+	    !(member->event.events & EPOLLOUT || is_once) || !file_is_full(member->file))
 		return;
 	wanted->is_full = true;
 	full_note(member->file, true);
 }
 
+/* Lets the kernel report a file again that it has reported, though it is full. */
+static void report_again(const struct member *member, void *what)
+{
+	const struct wanted *wanted = what;
+	int place = place_of(wanted->once, member->file);
+
+	if (member->event.data.u64 == wanted->data && place < wanted->once->count)
+		host_call(SYS_epoll_ctl, wanted->epoll, EPOLL_CTL_MOD, member->file,
+			  (long)&wanted->once->members[place].event, 0, 0);
+}
+
 /* Takes the files from the events that are full, and not ready for something else. Returns the
  * number of the others. */
-static int leave_out_full(int epoll, struct epoll_event *events, int count)
+static int leave_out_full(int epoll, struct epoll_event *events, int count,
+			  const struct once *once)
 {
 	int kept = 0;
 
 	for (int i = 0; i < count; i++) {
-		struct wanted wanted = { events[i].data.u64, false };
+		struct wanted wanted = { events[i].data.u64, false, epoll, once };
 
 		if (events[i].events & EPOLLOUT && !(events[i].events & (EPOLLERR | EPOLLHUP)))
 			each_member(epoll, find_full, &wanted);
@@ -129,6 +161,8 @@ static int leave_out_full(int epoll, struct epoll_event *events, int count)
 			events[i].events &= ~(uint32_t)(EPOLLOUT | EPOLLWRNORM | EPOLLWRBAND);
 		if (events[i].events)
 			events[kept++] = events[i];
+		else
+			each_member(epoll, report_again, &wanted);
 	}
 	return kept;
 }
@@ -138,6 +172,7 @@ static int leave_out_full(int epoll, struct epoll_event *events, int count)
 struct watch {
 	int epoll;
 	bool has_full;
+	struct once *once;
 };
 
 static void watch(const struct member *member, void *what)
@@ -150,16 +185,19 @@ static void watch(const struct member *member, void *what)
 		return;
 	watch->has_full |= is_full;
 	full_note(member->file, is_full);
+	if (event.events & EPOLLONESHOT && watch->once->count < EVENTS_MOST)
+		watch->once->members[watch->once->count++] = *member;
 	if (!is_full && full_is_over(watch->epoll, member->file))
 		host_call(SYS_epoll_ctl, watch->epoll, EPOLL_CTL_MOD, member->file, (long)&event,
 			  0, 0);
 }
 
-/* Returns whether an epoll waits for a full file. */
-static bool has_full(int epoll)
+/* Returns whether an epoll waits for a full file, and stores the files that are reported once. */
+static bool has_full(int epoll, struct once *once)
 {
-	struct watch watching = { epoll, false };
+	struct watch watching = { epoll, false, once };
 
+	once->count = 0;
 	if (full_was_noted())
 		each_member(epoll, watch, &watching);
 	return watching.has_full;
@@ -173,15 +211,17 @@ struct waited {
 static bool look_at_epoll(void *what)
 {
 	struct waited *waited = what;
+	struct once once;
 	long found;
 
 	if (waited->found > 0) /* the kernel reports an edge once */
 		return true;
-	has_full(waited->epoll);
+	has_full(waited->epoll, &once);
 	found = host_call(SYS_epoll_wait, waited->epoll, (long)waited->events, waited->most, 0, 0,
 			  0);
-	waited->found = found > 0 ? leave_out_full(waited->epoll, waited->events, (int)found)
-				  : (int)found;
+	waited->found = found > 0
+				? leave_out_full(waited->epoll, waited->events, (int)found, &once)
+				: (int)found;
 	return waited->found;
 }
 
@@ -199,13 +239,14 @@ static int wait_full(int epoll, struct epoll_event *events, int most, const stru
 	EXPORT int name parameters                                                       \
 	{                                                                                \
 		bool is_own = turn_is_own(CALLER);                                       \
+		struct once once;                                                        \
 		int found, left;                                                         \
                                                                                          \
 		turn_have(CALLER);                                                       \
-		if (is_own && has_full(file))                                            \
+		if (is_own && has_full(file, &once))                                     \
 			return wait_full(file, events, most, span, mask, CALLER);        \
 		found = epoll_again(file, events, most, REAL(name) arguments, CALLER);   \
-		left = is_own && found > 0 ? leave_out_full(file, events, found) : found; \
+		left = is_own && found > 0 ? leave_out_full(file, events, found, &once) : found; \
 		if (left || !found)                                                      \
 			return left;                                                     \
 		return wait_full(file, events, most, span, mask, CALLER);                \

@@ -62,12 +62,16 @@ EXPORT int pthread_mutex_lock(pthread_mutex_t *mutex)
 		    REAL(pthread_mutex_lock)(mutex));
 }
 
+BEFORE(int, pthread_mutex_trylock, (pthread_mutex_t * mutex), (mutex))
+
 /* Whoever locks it next may free its memory. */
 EXPORT int pthread_mutex_unlock(pthread_mutex_t *mutex)
 {
 	uint64_t key = key_of_mutex(mutex);
-	int error = REAL(pthread_mutex_unlock)(mutex);
+	int error;
 
+	turn_have(CALLER);
+	error = REAL(pthread_mutex_unlock)(mutex);
 	turn_unblock(key);
 	return error;
 }
@@ -98,11 +102,16 @@ EXPORT int pthread_rwlock_wrlock(pthread_rwlock_t *lock)
 		    REAL(pthread_rwlock_wrlock)(lock));
 }
 
+BEFORE(int, pthread_rwlock_tryrdlock, (pthread_rwlock_t * lock), (lock))
+BEFORE(int, pthread_rwlock_trywrlock, (pthread_rwlock_t * lock), (lock))
+
 EXPORT int pthread_rwlock_unlock(pthread_rwlock_t *lock)
 {
 	uint64_t key = key_of_rwlock(lock);
-	int error = REAL(pthread_rwlock_unlock)(lock);
+	int error;
 
+	turn_have(CALLER);
+	error = REAL(pthread_rwlock_unlock)(lock);
 	turn_unblock(key);
 	return error;
 }
@@ -171,6 +180,8 @@ EXPORT int sem_timedwait(sem_t *semaphore, const struct timespec *time)
 			REAL(sem_timedwait)(semaphore, time));
 }
 
+BEFORE(int, sem_trywait, (sem_t * semaphore), (semaphore))
+
 EXPORT int sem_post(sem_t *semaphore)
 {
 	uint64_t key = key_of_semaphore(semaphore);
@@ -190,6 +201,8 @@ EXPORT int mtx_lock(mtx_t *mutex)
 		return REAL(mtx_lock)(mutex);
 	return pthread_mutex_lock((pthread_mutex_t *)mutex) ? thrd_error : thrd_success;
 }
+
+BEFORE(int, mtx_trylock, (mtx_t * mutex), (mutex))
 
 EXPORT int mtx_unlock(mtx_t *mutex)
 {

@@ -94,6 +94,9 @@ EXPORT int thrd_create(thrd_t *thread, thrd_start_t function, void *argument)
 	return result;
 }
 
+/* jemalloc finds the C library's own pthread_create. Its threads make this call first. */
+BEFORE(int, pthread_setname_np, (pthread_t thread, const char *name), (thread, name))
+
 /* A thread that yields lets another one go on, also in a loop. */
 EXPORT int sched_yield(void)
 {

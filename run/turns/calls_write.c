@@ -195,8 +195,9 @@ static bool write_at_turns(int file, const struct msghdr *message, int flags, co
 	struct rest rest = { .message = message, .file = file, .flags = flags };
 	bool blocks;
 
-	if (!turn_is_own(caller) || message->msg_iovlen > IOV_MAX || flags & MSG_OOB)
-		return false;
+	if (!turn_is_own(caller) || message->msg_iovlen > IOV_MAX || flags & MSG_OOB ||
+	    !host_can_read(message->msg_iov, message->msg_iovlen * sizeof(*message->msg_iov)))
+		return false; /* if it isn't there, the kernel's call returns the error */
 	rest.kind = file_kind(file);
 	blocks = file_blocks(file, flags);
 	if (rest.kind == KIND_PLAIN || rest.kind == KIND_OTHER ||
@@ -227,6 +228,14 @@ static bool write_at_turns(int file, const struct msghdr *message, int flags, co
 		return result;                                                      \
 	}
 
+/* Returns a message, or one that isn't written at turns: it can't be read. */
+static struct msghdr message_at(const struct msghdr *message)
+{
+	return host_can_read(message, sizeof(*message))
+		       ? *message
+		       : (struct msghdr){ .msg_iovlen = IOV_MAX + 1 };
+}
+
 #define BYTES { .msg_iov = &(struct iovec){ (void *)bytes, size }, .msg_iovlen = 1 }
 
 WRITE(write, (int file, const void *bytes, size_t size), (file, bytes, size), 0, BYTES)
@@ -243,4 +252,4 @@ WRITE(sendto,
 	.msg_iov = &(struct iovec){ (void *)bytes, size },
 	.msg_iovlen = 1 })
 WRITE(sendmsg, (int file, const struct msghdr *message, int flags), (file, message, flags), flags,
-      *message)
+      message_at(message))

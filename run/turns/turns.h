@@ -40,6 +40,15 @@
 		return result;                         \
 	}
 
+/* Defines a call before which the thread needs the turn, and that isn't counted. Most threads have
+ * it. One that the C library's own pthread_create has started has none yet. */
+#define BEFORE(type, name, parameters, arguments)      \
+	EXPORT type name parameters                    \
+	{                                              \
+		turn_have(CALLER);                     \
+		return REAL(name) arguments;           \
+	}
+
 /* Finds a function of the next library, or ends the process. */
 void *turn_real_call(const char *name);
 

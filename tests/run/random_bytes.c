@@ -13,19 +13,12 @@
 #include <sys/wait.h>
 #include <unistd.h>
 
+#include "faults.h"
+
 #undef fread_unlocked /* its macro reads the buffer without a call */
 
-static int faults;
 static void *volatile nowhere = (void *)16;
 static size_t (*volatile read_unlocked)(void *, size_t, size_t, FILE *) = fread_unlocked;
-
-#define CHECK(holds)                                              \
-	do {                                                      \
-		if (!(holds)) {                                   \
-			printf("line %d: %s\n", __LINE__, #holds); \
-			faults++;                                 \
-		}                                                 \
-	} while (0)
 
 static void show(const char *name, const void *bytes, size_t size)
 {

@@ -2,9 +2,6 @@
 of two seconds moves MONOTONIC on by two seconds."""
 import os
 import re
-import select
-import signal
-import subprocess
 import unittest
 
 from runs import (CAN_FILTER, CAN_TRACE, LINUX, STILL, TKRUN, RunTest, call, needs_root, program)
@@ -213,12 +210,4 @@ class Calls(RunTest):
     @unittest.skipUnless(CAN_TRACE, "no process may be traced")
     def test_a_process_that_is_stopped_while_it_has_the_lock(self):
         for counter in [[], STILL]:
-            run = self.begin(TKRUN, "--quiet", *counter, "--", program("held"),
-                             stderr=subprocess.PIPE)
-            process = int(run.stdout.readline())
-            named = select.select([run.stderr], [], [], 100)[0] and run.stderr.readline()
-            os.kill(process, signal.SIGCONT)
-            self.assertEqual(run.communicate(timeout=100), ("", ""))
-            self.assertEqual((run.returncode, named), (0, (
-                f"tkrun: 'held' (process {process}) is stopped while it has the lock of the "
-                "clocks: all others wait for it\n")))
+            self.check_holder(*counter, "--")

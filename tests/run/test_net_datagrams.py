@@ -1,14 +1,17 @@
 """Datagrams between nodes with --link. All times are computed here: a program starts at 0, and a
 sleep of a second ends 1 ns after it."""
+import re
+import socket
 import unittest
 
 from links import ADDRESSES, MILLI, OPTIONS, PORT, SECOND, LinkTest
-from runs import TKRUN, program
+from runs import TKRUN, call, program
 
-SENDS = program("net_sends")
+SENDS, FAULTS = program("net_sends"), program("net_faults")
 # the texts of net_sends in the order of its calls
 TEXTS = ["sendmsg", "send", "msgmmsg", "sendto", "sendmsg", "send", "msgmmsg", "connected", "write",
          "writev", "", "", "control", "65507"]
+FAULTS_COUNT = 147  # calls of net_faults that find memory that isn't there
 RECEIVE_ALL = """
     s = udp("", PORT)
     while True:
@@ -46,6 +49,25 @@ class Datagrams(LinkTest):
                 expected = [[text, name, SECOND + 1 + 20 * MILLI] if text != "" else
                             [name, SECOND + 1 + 20 * MILLI] for text, name in zip(texts, names)]
                 self.assertEqual(out["b"], expected)
+
+    def test_memory_that_is_not_there(self):
+        # each call returns what it returns on the host, and what was sent there arrives
+        with socket.socket(socket.AF_INET, socket.SOCK_DGRAM) as receiver:
+            receiver.bind(("127.0.0.1", 0))
+            host = call([FAULTS, "127.0.0.1", str(receiver.getsockname()[1])])
+            texts = []
+            while not texts or texts[-1] != "last":
+                texts.append(receiver.recv(99).decode())
+        self.assertEqual((host.returncode, host.stderr), (0, ""))
+        self.assertEqual(texts, ["edge"] * 3 + ["at the end"] * 3 + ["name at the end", "last"])
+        self.assertEqual(len(re.findall(" -1 EFAULT", host.stdout)), FAULTS_COUNT)
+        for options in [["--stamps"], ["--stamps", "--seed", "1"]]:
+            out = self.on_links(["a,b,delay=1"], {
+                "b": RECEIVE_SOME.format(2),
+                "a": f"os.execv('{FAULTS}', ['s', B, str(PORT)])"}, *options)
+            self.assertEqual((self.folder / "a").read_text(), host.stdout)
+            self.assertEqual([(" ".join(line[:-1]), line[-1]) for line in out["b"]],
+                             [(text, SECOND) for text in texts])
 
     def test_both_directions(self):
         # 10 ms there and 30 ms back

@@ -2,9 +2,6 @@
 from the common counter in ns and the factor by which a node's counter is faster."""
 import os
 import re
-import select
-import signal
-import subprocess
 import unittest
 from fractions import Fraction
 
@@ -186,16 +183,7 @@ class Nodes(RunTest):
 
     @unittest.skipUnless(CAN_TRACE, "no process may be traced")
     def test_a_process_of_a_node_that_is_stopped_while_it_has_the_lock(self):
-        with subprocess.Popen([TKRUN, "--quiet", *STILL, "--node", "a", "--", TKRUN, "node", "a",
-                               "--", program("held")],
-                              stdout=subprocess.PIPE, stderr=subprocess.PIPE, text=True) as run:
-            process = int(run.stdout.readline())
-            named = select.select([run.stderr], [], [], 100)[0] and run.stderr.readline()
-            os.kill(process, signal.SIGCONT)
-            self.assertEqual(run.communicate(timeout=100), ("", ""))
-        self.assertEqual((run.returncode, named), (0, (
-            f"tkrun: 'held' (process {process}) is stopped while it has the lock of the "
-            "clocks: all others wait for it\n")))
+        self.check_holder(*STILL, "--node", "a", "--", TKRUN, "node", "a", "--")
 
     def test_killed_processes_leave_the_others(self):
         # no time passes while b computes, so each of its sleeps takes 1 ns more than its span

@@ -50,6 +50,20 @@ class ReadCost(RunTest):
         self.assertEqual(self.run_on(*STILL, "--read-cost", 1000, "--", SPINS, 1, SECOND),
                          f"{10**6} {SECOND}\n")
 
+    @unittest.skipUnless(CAN_FILTER, "the kernel lets no filter ask tkrun")
+    def test_a_server_that_measures_a_counter(self):
+        # MariaDB does so when it starts: at most a million reads, until 10 ms have passed
+        for command in [[program("calibrates")], [program("static_calibrates")]]:
+            for cost in [1000, 300, 999999]:
+                reads = -(-10001000 // cost)
+                with self.subTest(command=command, cost=cost):
+                    self.assertEqual(self.run_on(*STILL, "--start", 5, "--read-cost", cost, "--",
+                                                 *command, 10000, 10**6),
+                                     f"{reads} {reads * cost // 1000}\n")
+        # a thousand reads take 1 us
+        self.assertEqual(self.run_on(*STILL, "--start", 5, "--read-cost", 1, "--",
+                                     program("calibrates"), 10000, 20000), "20000 20\n")
+
     def test_each_clock(self):
         for clock in FINE:
             for cost in [7, 1000, 10**9]:

@@ -1,4 +1,5 @@
-"""--seed: what a thread finds after another one was let go (turn_eager.c, turn_sent.c)."""
+"""--seed: what a thread finds after another one was let go (turn_eager.c, turn_sent.c), or without a
+turn (turn_alone.c)."""
 from runs import STILL, RunTest, program
 
 
@@ -45,8 +46,16 @@ class Eager(RunTest):
     def test_a_killed_process_has_closed_its_files(self):
         self.check("turn_sent", "killed", *["0"] * 6)
 
+    def test_a_killed_process_of_several_threads_has_ended(self):
+        self.check("turn_sent", "ended", *["1"] * 20)
+
     def test_a_handler_runs_after_a_signal_of_a_thread(self):
         self.check("turn_sent", "handled", *["0"] * 2)
 
     def test_a_started_program_has_closed_the_files_that_it_does_not_inherit(self):
         self.check("turn_sent", "started", *["0"] * 24)
+
+    def test_a_thread_without_a_turn_waits_for_it_at_its_next_call(self):
+        for seed in range(2):
+            shown = self.run_on(*STILL, "--seed", seed, "--", program("turn_alone"))
+            self.assertEqual(shown.split(), ["0"] * 11)

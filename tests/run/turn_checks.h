@@ -3,19 +3,10 @@
 #define TURN_CHECKS_H
 
 #include <pthread.h>
-#include <stdio.h>
 #include <sys/mman.h>
 #include <time.h>
 
-static int faults;
-
-#define CHECK(holds)                                              \
-	do {                                                      \
-		if (!(holds)) {                                   \
-			printf("line %d: %s\n", __LINE__, #holds); \
-			faults++;                                 \
-		}                                                 \
-	} while (0)
+#include "faults.h"
 
 static inline pthread_mutex_t *make_mutex(int kind, int is_shared, int is_robust)
 {

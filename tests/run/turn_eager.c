@@ -20,27 +20,13 @@
 #include <time.h>
 #include <unistd.h>
 
+#include "turn_naps.h"
+
 enum { ROUNDS = 8, BYTES = 300000, PART = 10000, MESSAGES = 20 };
 
 static int ends[2], queue;
 static const char *lock_name;
 static char bytes[BYTES];
-
-static void check(int holds, const char *what)
-{
-	if (!holds) {
-		printf("wrong: %s, %s\n", what, strerror(errno));
-		exit(1);
-	}
-}
-
-/* Lets all others go on until they wait. */
-static void nap(void)
-{
-	static const struct timespec SPAN = { 0, 1000000 };
-
-	nanosleep(&SPAN, NULL);
-}
 
 /* Writes more than there is space for, by each call. */
 static void *write_all(void *socket)

@@ -17,25 +17,11 @@
 #include <time.h>
 #include <unistd.h>
 
-enum { CALLS = 6, ROUNDS = 8 };
+#include "turn_naps.h"
+
+enum { CALLS = 6, ROUNDS = 8, THREADS = 24, DEATHS = 20 };
 
 static int ends[2];
-
-static void check(int holds, const char *what)
-{
-	if (!holds) {
-		printf("wrong: %s, %s\n", what, strerror(errno));
-		exit(1);
-	}
-}
-
-/* Lets all others go on until they wait. */
-static void nap(void)
-{
-	static const struct timespec SPAN = { 0, 1000000 };
-
-	nanosleep(&SPAN, NULL);
-}
 
 /* Prints whether the end of a pipe has come, whose other end another process had. */
 static void show_end(void)
@@ -120,6 +106,26 @@ static void show_handled(int is_queued)
 	printf("%c ", byte);
 }
 
+/* The parent of a process with several threads finds that it has ended. The kernel says so when the
+ * last of these is gone, which may be another one than the first. */
+static void show_ended(void)
+{
+	pid_t process = fork();
+	pthread_t thread;
+	int has_ended;
+
+	for (int i = 0; !process && i < THREADS; i++)
+		check(!pthread_create(&thread, NULL, run_handler, NULL), "pthread_create");
+	if (!process)
+		run_handler(NULL);
+	nap();
+	check(!kill(process, SIGKILL), "kill");
+	has_ended = waitpid(process, NULL, WNOHANG) == process;
+	printf("%d ", has_ended);
+	if (!has_ended)
+		waitpid(process, NULL, 0);
+}
+
 /* A program that was started has closed the files that it doesn't inherit. */
 static void show_started(int how, char **environment)
 {
@@ -151,6 +157,8 @@ int main(int count, char **words, char **environment)
 		show_killed(i);
 	for (int i = 0; i < 2 && !strcmp(how, "handled"); i++)
 		show_handled(i);
+	for (int i = 0; i < DEATHS && !strcmp(how, "ended"); i++)
+		show_ended();
 	for (int i = 0; i < 3 * ROUNDS && !strcmp(how, "started"); i++)
 		show_started(i % 3, environment);
 	puts(how);
