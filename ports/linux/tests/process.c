@@ -5,6 +5,7 @@
  */
 #include "process.h"
 #include <linux/ktime.h>
+#include <stdarg.h>
 
 #ifdef TKC_CONTROL	/* only the port */
 #define TICK_ADJ_SETUP tk_tick_adj_setup
@@ -105,6 +106,33 @@ void process_logged(struct process_log *out)
 {
 	*out = process_log;
 	memset(&process_log, 0, sizeof(process_log));
+}
+
+static char printed[1024];
+
+/* Takes a line of the log. Those of leap seconds are only counted. */
+void process_print(const char *format, ...)
+{
+	size_t length = strlen(printed);
+	va_list rest;
+
+	process_log.inserted += !!strstr(format, "inserting");
+	process_log.deleted += !!strstr(format, "deleting");
+	if (strstr(format, "leap second"))
+		return;
+	va_start(rest, format);
+	vsnprintf(printed + length, sizeof(printed) - length, format, rest);
+	va_end(rest);
+}
+
+/* Returns the lines that have been logged since the last question. */
+const char *process_printed(void)
+{
+	static char out[sizeof(printed)];
+
+	strcpy(out, printed);
+	printed[0] = 0;
+	return out;
 }
 
 /* Goes on with the other counter. */

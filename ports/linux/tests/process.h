@@ -7,7 +7,9 @@
 #include "linux.h"
 
 #define CLOCK_SET_BOOT 2
-#define KERN_WARNING ""
+#define KERN_ERR "<3>"
+#define KERN_WARNING "<4>"
+#define KERN_NOTICE "<5>"
 #define __aligned(bytes) __attribute__((aligned(bytes)))
 #define X86_CR4_OSFXSR 0
 #define U32_MAX UINT32_MAX
@@ -15,6 +17,7 @@
 #define WRITE_ONCE(x, value) ((x) = (value))
 #define smp_mb() __sync_synchronize()
 #define max_t(type, a, b) max((type)(a), (type)(b))
+#define clamp_t(type, x, low, high) clamp((type)(x), (type)(low), (type)(high))
 #define cr4_set_bits(bits) ((void)(bits))
 #define panic(text) (fputs(text, stderr), abort())
 #define WARN_ONCE(x, text, ...) \
@@ -22,7 +25,6 @@
 #define BUILD_BUG_ON(x) _Static_assert(!(x), #x)
 
 #define div_s64(a, b) ((s64)(a) / (s32)(b))
-#define KERN_NOTICE ""
 
 /* What calls have logged: audit records, the times that REALTIME was moved by, and leap seconds. */
 enum { AUDIT_NTP_OFFSET, AUDIT_NTP_FREQ, AUDIT_NTP_STATUS, AUDIT_NTP_TAI, AUDIT_NTP_TICK,
@@ -32,6 +34,7 @@ struct process_log {
 	s64 inserted, deleted;
 };
 extern struct process_log process_log;
+extern void process_print(const char *format, ...);
 
 #undef audit_ntp_init
 #undef audit_ntp_set_old
@@ -46,8 +49,7 @@ extern struct process_log process_log;
 #define audit_ntp_log(ad) ((void)(ad), process_log.records++)
 #define audit_tk_injoffset(offset) (process_log.moves++, \
 	process_log.moved_sec = (offset).tv_sec, process_log.moved_nsec = (offset).tv_nsec)
-#define printk_deferred(text) (process_log.inserted += !!strstr(text, "inserting"), \
-	process_log.deleted += !!strstr(text, "deleting"))
+#define printk_deferred(...) process_print(__VA_ARGS__)
 
 /* ntp_tick_adj= may have any number. */
 extern s64 process_tick_adj;

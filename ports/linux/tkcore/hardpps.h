@@ -14,8 +14,7 @@ void hardpps(const struct timespec64 *phase_ts, const struct timespec64 *raw_ts)
 		return;
 	now = tk_begin(&flags);
 	if (!tk_forward(now))
-		tk_check(tkc_ntp_pulse(&tk_state, &tk_pps, now, phase_ts->tv_nsec,
-				       timespec64_to_ns(raw_ts)));
+		tk_take_pulse(now, phase_ts->tv_nsec, timespec64_to_ns(raw_ts));
 	tk_end(flags, 0);
 }
 EXPORT_SYMBOL(hardpps);

@@ -1,0 +1,167 @@
+# SPDX-License-Identifier: GPL-2.0
+"""Random calls of the port and of the definitions, for process.py."""
+import ctypes
+import sys
+from dataclasses import replace
+
+from kernel import Timex
+from late import Orders
+from model import NANOS, Counter
+from ntp import Timex as Request
+from steered_clock import Refused, Steered
+from wrong_calls import s64, u64
+
+HZ = 250
+STATES = "Ok", "Ins", "Del", "Oop", "Wait", "Error"
+SIGNAL = "ppsfreq", "jitter", "shift", "stabil", "jitcnt", "calcnt", "errcnt", "stbcnt"
+EINVAL = -22
+OTHER = 0x123456789abcd  # by how much the other counter's readings are ahead
+COUNTERS = [(64, 8388608, 23), (64, 16777216, 24), (56, 174762667, 22), (32, 3495253333, 26)]
+
+
+def finer(bits, mult, shift):
+    """The counter that the port makes of a clocksource's numbers (tk_finer)."""
+    most, by = mult + mult // 9 + 1, 0
+    while shift + by < 28 and most << by + 1 < 2**32:
+        by += 1
+    return Counter(bits, mult << by, shift + by)
+
+
+class Timeline(Orders):
+    """Random calls of a kernel that has just booted, and of the definitions."""
+
+    def __init__(self, seed, calls):
+        super().__init__(seed)
+        self.calls, self.kinds, self.ahead = calls, {}, 0
+        self.numbers = self.random.choice(COUNTERS)
+        start = self.random.randrange(2**min(self.numbers[0], 60))
+        self.uptime = self.random.randrange(5 * NANOS)
+        wall = self.random.randrange(10, 10**9)
+        calls.process_boot(*self.numbers, u64(start), s64(0), s64(wall), u64(self.uptime))
+        self.steered = Steered(finer(*self.numbers), start, wall * NANOS, HZ, self.uptime)
+
+    def at(self, reading):
+        """The reading of the first counter at a reading of the present one."""
+        return u64(reading - self.ahead)
+
+    def reading(self):
+        """Rarely a reading at which the product of the kernel's own line is past 2^64."""
+        clock, bits = self.steered.clock, self.steered.clock.counter.bits
+        past = 2**64 // clock.mult() + 1
+        if past > 2**bits // 3 or self.random.randrange(200):
+            return super().reading()
+        return (clock.last + past + self.random.randrange(past // 1000)) % 2**bits
+
+    def forward_to(self, reading):
+        self.steered.advance_late(reading)
+        self.steered.apply(reading, "update")
+
+    def tick(self):
+        """A tick does nothing before the interval of a tick, in cycles and rounded, has passed."""
+        reading, clock = self.reading(), self.steered.clock
+        _, mult, shift = self.numbers
+        interval = ((NANOS // HZ << shift) + mult // 2) // mult
+        self.calls.process_tick(self.at(reading))
+        if clock.counter.gap(clock.last, reading) >= interval:
+            self.forward_to(reading)
+
+    def set(self):
+        """A reading behind the last one is taken as the last one."""
+        reading = asked = self.reading()
+        if self.random.randrange(4) == 0:
+            reading = self.steered.clock.last
+            asked = (reading - self.random.randrange(1, 1000)) % 2**self.steered.clock.counter.bits
+        day = self.random.randrange(1, 20_000) * 86_400
+        sec, nsec = day - self.random.randrange(5), self.random.randrange(NANOS)
+        code = self.calls.process_settime(ctypes.c_int64(sec), ctypes.c_int64(nsec), self.at(asked))
+        self.forward_to(reading)
+        try:
+            self.steered.apply(reading, "set", sec, nsec)
+            expected = 0
+        except Refused:
+            expected = EINVAL
+        self.expect(code, expected, "settime")
+
+    def request(self):
+        order, _ = self.ask()
+        _, _, modes, offset, freq, status, constant, tick = order.split()
+        self.adjtimex(modes=int(modes), offset=int(offset), freq=int(freq), status=int(status),
+                      constant=int(constant), tick=int(tick))
+
+    def adjtimex(self, **fields):
+        reading = self.reading()
+        timex = Timex.of(**fields)
+        got = self.calls.process_adjtimex(ctypes.byref(timex), self.at(reading))
+        self.forward_to(reading)
+        reply = self.steered.adjtimex(reading, Request(**fields))
+        state, *signal = self.signal_of(reply[0])
+        self.expect(got, STATES.index(state), "adjtimex")
+        self.expect([getattr(timex, it) for it in SIGNAL], signal, "the signal's fields")
+
+    def signal_of(self, state):
+        """The state of a reply and the fields that show the signal: 0 without one."""
+        signal = self.steered.signal
+        return signal.reply(self.steered.ntp.status, state) if signal else [state] + [0] * len(SIGNAL)
+
+    def sleep(self):
+        reading, ns = self.reading(), self.random.choice([0, 10**9, 12_345_678_901])
+        woken = self.random.randrange(2**min(self.steered.clock.counter.bits, 60))
+        self.calls.process_suspend(self.at(reading))
+        self.forward_to(reading)
+        self.steered.apply(reading, "suspend")
+        self.compare(self.random.randrange(2**16))
+        self.calls.process_resume(u64(ns), self.at(woken))
+        self.steered.apply(woken, "resume", *divmod(ns, NANOS))
+
+    def switch(self):
+        """Goes on with another counter, as tkc_clock_change_counter and a step of nothing do."""
+        reading, self.numbers = self.reading(), self.random.choice(COUNTERS)
+        self.expect(self.calls.process_switch(*self.numbers, self.at(reading)), 0, "notify")
+        self.forward_to(reading)
+        old, new = self.steered.clock, finer(*self.numbers)
+        now, self.ahead = reading - self.ahead, OTHER - self.ahead
+        first = (now + self.ahead) % 2**new.bits
+        self.steered.clock = replace(
+            old, counter=new, last=first, amount=(old.amount << new.shift) >> old.counter.shift,
+            raw_amount=(old.raw_amount << new.shift) >> old.counter.shift)
+        self.steered.lag, self.steered.mark = 0, first
+        self.steered.apply(first, "step", 0, 0)
+
+    def expect(self, got, expected, what):
+        if got != expected:
+            sys.exit(f"process: {what} returned {got}, not {expected}")
+
+    def compare(self, reading):
+        """Compares all clocks at a reading that isn't behind."""
+        clock, fast = self.steered.clock, 0 if self.steered.clock.asleep else 100
+        values = {0: clock.value("realtime", reading), 1: clock.value("monotonic", reading),
+                  7: clock.value("boottime", reading), 11: clock.value("tai", reading),
+                  5: clock.value("realtime", clock.last),
+                  200: clock.value("realtime", clock.last) // NANOS,
+                  201: clock.value("monotonic", clock.last) // NANOS}
+        raw = clock.raw_amount + clock.cycles(reading) * clock.counter.mult
+        values[4] = (raw >> clock.counter.shift) - self.uptime
+        if fast:
+            values.update({100: values[0], 101: values[1], 104: values[4]})
+        else:
+            values = {101: values[1]}
+        for number, value in values.items():
+            got = self.calls.process_time(number, self.at(reading))
+            self.expect(got, value, f"clock {number} at {reading}")
+        self.expect(self.calls.process_status(), self.steered.ntp.status, "status")
+        by, second = self.steered.coming_leap()
+        leap = second * NANOS - clock.real_offset if by == -1 else 2**63 - 1
+        self.expect(self.calls.process_leap(), leap, "leap")
+
+    def kind(self):
+        return self.random.choices(["tick", "set", "request", "sleep", "switch"],
+                                   [68, 5, 22, 3, 2])[0]
+
+    def step(self):
+        """Makes a call, and compares all clocks some time later."""
+        kind = self.kind()
+        self.kinds[kind] = self.kinds.get(kind, 0) + 1
+        getattr(self, kind)()
+        clock = self.steered.clock
+        later = (self.random.randrange(10**9) << clock.counter.shift) // clock.counter.mult
+        self.compare((clock.last + later) % 2**clock.counter.bits)

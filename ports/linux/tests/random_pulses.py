@@ -1,0 +1,92 @@
+# SPDX-License-Identifier: GPL-2.0
+"""Random calls and pulses of the port and of the definitions, for process.py."""
+import ctypes
+from dataclasses import replace
+
+from model import NANOS
+from ntp import (ADJTIME, FREQUENCY, OFFSET, ONE, SETOFFSET, STA_PLL, STA_PPSFREQ, STA_PPSJITTER,
+                 STA_PPSSIGNAL, STA_PPSTIME, STATUS, toward_zero)
+from pps import Pps, nearest
+from random_calls import Timeline
+from wrong_calls import u64
+
+
+def lines_of(was, now, status, raw):
+    """Yields what hardpps logs of a pulse that changes a signal: lines with their levels."""
+    if status & STA_PPSJITTER and now.jitcnt == was.jitcnt:
+        yield "<3>hardpps: PPSJITTER: bad pulse"
+    if now.errcnt > was.errcnt:
+        yield f"<3>hardpps: PPSERROR: interval too long - {nearest(raw - was.start)[0]} s"
+    if now.stbcnt > was.stbcnt:
+        yield f"<4>hardpps: PPSWANDER: change={toward_zero(now.frequency - was.frequency, ONE)}"
+    if now.jitcnt > was.jitcnt:
+        jitter = abs(now.correction - was.correction)
+        yield f"<4>hardpps: PPSJITTER: jitter={jitter}, limit={was.jitter * 16}"
+
+
+class PulseTimeline(Timeline):
+    """Calls with CONFIG_NTP_PPS: half of them are pulses, most a second after the last one."""
+
+    def __init__(self, seed, calls):
+        super().__init__(seed, calls)
+        self.steered.signal, self.raw, self.drift = Pps(), 10 * NANOS, 30_000
+        self.taken = self.lost = 0
+        self.lines = {}
+
+    def kind(self):
+        return "pulse" if self.random.randrange(2) else super().kind()
+
+    def ask(self):
+        """A request, whose status often has the bits of a signal."""
+        order, follow = super().ask()
+        words = order.split()
+        if self.random.randrange(2):
+            words[2] = str(int(words[2]) | STATUS | self.random.choice([0, FREQUENCY]))
+            bits = [0, STA_PPSFREQ, STA_PPSTIME, STA_PPSFREQ | STA_PPSTIME]
+            words[5] = str(self.random.choice(bits) | self.random.choice([0, STA_PLL]))
+        return " ".join(words), follow
+
+    def request(self):
+        """Rarely a step of REALTIME, or a call adjtime, which leaves out the frequency."""
+        if self.random.randrange(6):
+            super().request()
+            return
+        modes = self.random.choice([SETOFFSET, SETOFFSET | FREQUENCY, ADJTIME | OFFSET | FREQUENCY])
+        self.adjtimex(modes=modes, sec=self.random.randrange(3), sub=0,
+                      offset=self.random.randrange(-500, 500),
+                      freq=self.random.randrange(-2**25, 2**25))
+
+    def pulse(self):
+        signal, counter = self.steered.signal, self.steered.clock.counter
+        second = (NANOS << counter.shift) // counter.mult
+        later = self.random.choice([second] * 20 + [0, 12 * second])
+        reading = (self.steered.clock.last + later) % 2**counter.bits
+        if self.random.randrange(30) == 0:
+            self.drift = self.random.randrange(-600_000, 600_000)
+        self.raw += self.random.choice([NANOS] * 40 + [0, 9 * NANOS]) + self.drift
+        rare = self.random.choice([self.random.randrange(NANOS), NANOS // 2])
+        nsec = self.random.choice([self.random.randrange(500)] * 9 + [rare])
+        had = self.steered.ntp.status & STA_PPSSIGNAL
+        self.calls.process_pulse(nsec, u64(self.raw), self.at(reading))
+        self.forward_to(reading)
+        self.lost += bool(had and not self.steered.ntp.status & STA_PPSSIGNAL)
+        was = replace(signal)
+        self.steered.pulse(reading, nsec, self.raw)
+        self.taken += signal.calcnt - was.calcnt
+        self.compare_lines(list(lines_of(was, signal, self.steered.ntp.status, self.raw)))
+
+    def compare_lines(self, expected):
+        """Compares the lines that the last pulse has logged, and counts each kind."""
+        self.expect(self.calls.process_printed().decode().splitlines(), expected, "the log")
+        for line in expected:
+            kind = line.partition("=")[0].partition(" - ")[0]
+            self.lines[kind] = self.lines.get(kind, 0) + 1
+
+    def compare(self, reading):
+        """Compares each number of the signal's state too."""
+        super().compare(reading)
+        words, it = (ctypes.c_uint64 * 10)(), self.steered.signal
+        self.calls.process_signal(words)
+        numbers = [it.valid + (it.shift << 32), it.jitter + (it.stabil << 32), it.correction,
+                   it.balance, it.frequency, it.start, it.calcnt, it.jitcnt, it.stbcnt, it.errcnt]
+        self.expect(list(words), [number % 2**64 for number in numbers], "the signal's state")
