@@ -7,12 +7,14 @@ the kernel's sources, if they are unpacked already (`kernel.unpack`). A cycle of
 nanosecond, and HZ is 250, unless a test says otherwise.
 """
 import os
+import random
 import tempfile
 import unittest
 from pathlib import Path
 
 from kernel import ARCHIVE, Kernel, Timex, compiled, unpack
 from library import CODES, RESUME, SET_TIME, SUSPEND, UPDATE, Library, Model, model, ntp
+from timeline import Known, Timeline
 
 SECOND = 10**9
 MS = 10**6
@@ -217,6 +219,16 @@ class Differences(unittest.TestCase):
         theirs, ours = (time - 1_700_000_101 * SECOND for time in self.times())
         self.assertAlmostEqual(theirs, -127_100, delta=200)
         self.assertAlmostEqual(ours, 0, delta=200)
+
+    def test_a_step_near_the_start_of_a_second_is_avoided(self):
+        # a timeline in which such a step put the two clocks into different seconds
+        timeline = Timeline(random.Random(1_575_323_327), 250, compiled(self.folder, 250),
+                            Library if LIBRARY else Model)
+        self.addCleanup(timeline.kernel.close)
+        try:
+            timeline.run()
+        except Known:
+            pass
 
 
 if __name__ == "__main__":

@@ -105,11 +105,17 @@ class Timeline:
     def settle(self):
         """Moves on to a reading that isn't near the beginning of a second, which the kernel notices
         at a tick."""
-        low = 5 * NANOS // (2 * self.hz) + self.apart()
-        past = self.clocks.time(0, self.reading) % NANOS
-        if not low <= past <= NANOS - self.apart() - 1000:
-            missing = (low - past) % NANOS * 1.2
+        now = self.clocks.time(0, self.reading)
+        if self.is_near_start(now):
+            missing = (self.least_past() - now) % NANOS * 1.2
             self.move(self.reading + int(missing * self.rate / NANOS) + 1)
+
+    def least_past(self):
+        """Returns how long ago a second must have begun, in ns, so that the kernel has noticed."""
+        return 5 * NANOS // (2 * self.hz) + self.apart()
+
+    def is_near_start(self, time):
+        return not self.least_past() <= time % NANOS <= NANOS - self.apart() - 1000
 
     def check_state(self):
         """Ends at a state that the library avoids."""
@@ -148,6 +154,7 @@ class Timeline:
 
     def ask(self, request):
         self.avoid_negative_times(request)
+        self.avoid_starts(request)
         theirs, ours, length = request.copy(), request.copy(), self.kernel.tick_length()
         state = self.kernel.adjtimex(theirs, self.reading)
         code, our_state = self.clocks.adjtimex(ours, self.reading)
@@ -172,6 +179,14 @@ class Timeline:
         is_before = self.kernel.reftime() > self.kernel.time(0, self.reading) // NANOS + step
         if is_before and not request.modes & ntp.ADJTIME:
             request.modes &= ~ntp.OFFSET
+
+    def avoid_starts(self, request):
+        """Takes the part of a second out of a step that leads near the beginning of one: there the
+        clocks, which may be apart, can be in two different seconds."""
+        part = request.sub * (1 if request.modes & ntp.NANO else 1000)
+        if request.modes & ntp.SETOFFSET and 0 <= part < NANOS and \
+                self.is_near_start(self.clocks.time(0, self.reading) + part):
+            request.sub = 0
 
     def check_refused(self, request, replies, codes):
         """Both must refuse, and write nothing. Ends at a refused step."""
