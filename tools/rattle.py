@@ -132,8 +132,8 @@ class Crate:
         folder of libraries, for both backends."""
         target, checked = f"--target={target}", libraries / f"{self.name}.{target}.checked"
         if not self.is_newer(checked):
-            status, said = self.run("check", libraries, f"--jobs={min(processors(), 4)}", target,
-                                    f"-o={checked}")
+            # (each process more would load the libraries again)
+            status, said = self.run("check", libraries, "--jobs=1", target, f"-o={checked}")
             if status:
                 return status, said
         return self.run("build", libraries, f"--crate-checked={checked}", f"--backend={backend}",

@@ -59,7 +59,7 @@ class Chosen(Case):
 
     def test_the_same_content_chooses_the_same_in_two_commits_and_in_no_repository(self):
         first, seed = self.tried(), self.seed(self.top)
-        self.assertEqual(4, len(first))
+        self.assertEqual(2, len(first))
         self.git("init")
         self.commit()
         self.assertEqual((first, seed), (self.tried(), self.seed(self.top)))
@@ -79,10 +79,9 @@ class Chosen(Case):
             for byte in "xy":
                 self.write(f"crates/low/{part}", byte)
                 tried = self.tried()
-                self.assertEqual(first[:2], tried[:2])
-                self.assertEqual({"high"}, {it.partition("/")[0] for it in tried[:2]})
+                self.assertEqual(first[0], tried[0])
                 seeds.add(self.seed(self.top))
-                found.add(tuple(tried[2:]))
+                found.add(tried[1])
         self.assertGreater(len(found), 2)
         # (the seed of random scripts depends on sources only)
         self.assertEqual(2, len(seeds))

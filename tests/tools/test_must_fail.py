@@ -39,7 +39,8 @@ class MustFail(Case):
     def tried(self, rattle):
         """Tries the edits with a rattle of this script. Returns the status and the sorted lines."""
         self.stand_in("rattle", f"echo \"$*\" >>{self.room}/calls\n{rattle}")
-        status, said, errors = self.run_tool("tools/must_fail", "low", top=self.top)
+        status, said, errors = self.run_tool("tools/must_fail", "--all", "low",
+                                             top=self.top)
         self.assertEqual("", errors)
         return status, sorted(said.splitlines())
 

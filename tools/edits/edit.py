@@ -137,15 +137,6 @@ def together(edits):
     return texts
 
 
-def first_round(edits, most):
-    """Returns the first edit, and the next ones that go with it and with one another."""
-    chosen = edits[:1]
-    for edit in edits[1:]:
-        if len(chosen) < most and fits(edit, chosen):
-            chosen.append(edit)
-    return chosen
-
-
 def rounds(edits, most):
     """Puts each edit into the first round with which it goes and that has fewer than `most`."""
     made = []
