@@ -346,16 +346,17 @@ def compare(program, count, seed, orders=Orders, new_session=Session):
     print(f"seed {seed}: {count} orders are answered as the definitions have it")
 
 
-def main():
+def main(count=100_000, orders=Orders, new_session=Session):
+    """Compares a program, or answers the orders of standard input, as the arguments ask for."""
     if len(sys.argv) == 1:
-        session = Session()
+        session = new_session()
         for order in sys.stdin:
             for line in session.answers(order.strip()):
                 print(line)
         return
-    count = int(sys.argv[2]) if len(sys.argv) > 2 else 100_000
+    count = int(sys.argv[2]) if len(sys.argv) > 2 else count
     seed = int(sys.argv[3]) if len(sys.argv) > 3 else random.randrange(2**32)
-    compare(sys.argv[1], count, seed)
+    compare(sys.argv[1], count, seed, orders, new_session)
 
 
 if __name__ == "__main__":

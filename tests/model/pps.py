@@ -11,9 +11,6 @@ order `signal` on, the discipline has a signal, and an `adj` is followed by the 
 
     pps,STATE,PPSFREQ,JITTER,SHIFT,STABIL,JITCNT,CALCNT,ERRCNT,STBCNT
 """
-import random
-import subprocess
-import sys
 from dataclasses import dataclass
 
 import ntp
@@ -282,15 +279,5 @@ class Orders(ntp.Orders):
         return self.random.randrange(-most * spike, most * spike + 1)
 
 
-def main():
-    if len(sys.argv) > 1:
-        ntp.compare(sys.argv[1], *map(int, sys.argv[2:]), Orders, Session)
-        return
-    session = Session()
-    for order in sys.stdin:
-        for line in session.answers(order.strip()):
-            print(line)
-
-
 if __name__ == "__main__":
-    main()
+    ntp.main(orders=Orders, new_session=Session)

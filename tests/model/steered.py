@@ -8,10 +8,7 @@ definitions in unbounded integers, and stops at the first answer that differs.
 The definitions are those of `steered_clock.py` and `ntp.py`. The first lines of the program's source
 explain orders and answers.
 """
-import random
-import subprocess
-import sys
-
+import ntp
 from model import NANOS, SETTABLE_LIMIT, Counter, is_settable
 from ntp import DAY, STA_DEL, STA_INS, STA_PLL, STATUS, Orders, Timex
 from steered_clock import Refused, Steered
@@ -139,30 +136,5 @@ class SteeredOrders(Orders):
         return ",".join(map(str, (word, reading, *numbers)))
 
 
-def compare(program, count, seed):
-    orders = SteeredOrders(seed)
-    some = [orders.next() for _ in range(count)]
-    said = subprocess.run([program], input="\n".join(some) + "\n", capture_output=True, text=True, check=True)
-    lines, session = iter(said.stdout.splitlines()), Session()
-    for number, order in enumerate(some):
-        for expected in session.answers(order):
-            line = next(lines, None)
-            if line != expected:
-                sys.exit(f"seed {seed}, order {number}: {order}\n  the program: {line}\n  the model:   {expected}")
-    print(f"seed {seed}: {count} orders are answered as the definitions have it")
-
-
-def main():
-    if len(sys.argv) == 1:
-        session = Session()
-        for order in sys.stdin:
-            for line in session.answers(order.strip()):
-                print(line)
-        return
-    count = int(sys.argv[2]) if len(sys.argv) > 2 else 20_000
-    seed = int(sys.argv[3]) if len(sys.argv) > 3 else random.randrange(2**32)
-    compare(sys.argv[1], count, seed)
-
-
 if __name__ == "__main__":
-    main()
+    ntp.main(20_000, SteeredOrders, Session)
