@@ -37,11 +37,20 @@ def licences():
     return sorted([*HERE.glob("LICENSE-*")] or [*HERE.parents[1].glob("LICENSE-*")])
 
 
+def addresses():
+    """Returns the lines with the project's address: that of TKCORE_URL, or of the source package."""
+    told = HERE / "PKG-INFO"
+    kept = told.read_text(encoding="utf-8") if told.is_file() else ""
+    given = os.environ.get("TKCORE_URL")
+    return ([f"Project-URL: Source, {given}"] if given else
+            re.findall(r"^Project-URL: .+$", kept.partition("\n\n")[0], re.M))
+
+
 def metadata():
     given = project()
     lines = ["Metadata-Version: 2.1", f"Name: {given['name']}", f"Version: {given['version']}",
              f"Summary: {given['description']}", f"License: {given['license']}",
-             f"Keywords: {','.join(given['keywords'])}",
+             f"Keywords: {','.join(given['keywords'])}", *addresses(),
              *(f"Classifier: {it}" for it in given["classifiers"]),
              f"Requires-Python: {given['requires-python']}", "Provides-Extra: numpy",
              'Requires-Dist: numpy; extra == "numpy"', "Description-Content-Type: text/markdown",

@@ -127,6 +127,16 @@ class Wheel(Case):
         self.assertEqual(self.wheel("x86_64"), self.wheel("x86_64", own))
         self.assertIn(f"Version: {VERSION}\n", (own / "PKG-INFO").read_text(encoding="utf-8"))
 
+    def test_the_address_of_who_publishes(self):
+        address = "https://clocks.example/tkcore"
+        with tarfile.open(self.made("build_sdist", TKCORE_URL=address)) as packed:
+            packed.extractall(self.room / "unpacked")
+        own, about = self.room / "unpacked" / NAME, f"{NAME}.dist-info/METADATA"
+        told = [(own / "PKG-INFO").read_bytes(), self.wheel("x86_64", own)[about],
+                self.wheel("x86_64", TKCORE_URL=address)[about], self.wheel("x86_64")[about]]
+        self.assertEqual([[f"Source, {address}"]] * 3 + [None],
+                         [email.message_from_bytes(it).get_all("Project-URL") for it in told])
+
     def refused(self, sentence, **variables):
         """pip prints this sentence last, and no wheel is made."""
         self.assertEqual((1, "", f"tkcore: {sentence}\n"), self.make("build_wheel", **variables))
