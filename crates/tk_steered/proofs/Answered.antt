@@ -15,7 +15,7 @@ use Rattle.tk_ntp.specs.Account.{IsMarked}
 use Rattle.tk_ntp.specs.Advance.{IsAdvanced, second_begun_at}
 use Rattle.tk_ntp.specs.Applied.{IsApplied, IsPlain, request_of, without_reply}
 use Rattle.tk_ntp.specs.Asked.{IsAnswered, IsAsked, IsCommanded, first_fault}
-use Rattle.tk_ntp.specs.Course.{Course, seen}
+use Rattle.tk_ntp.specs.Course.{seen}
 use Rattle.tk_ntp.specs.Fault.{is_faulty}
 use Rattle.tk_ntp.specs.Keeping.{IsAskedTo, IsCommandedTo, IsFollowing, request_most, second_most}
 use Rattle.tk_ntp.specs.SteeredClock.{SteeredClock, reading_refusal}

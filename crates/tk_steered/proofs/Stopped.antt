@@ -1,5 +1,5 @@
 -- Seconds that begin, all or some: the others can follow, and the last account stays in its place.
-use Rattle.std.proofs.Common.{◌≡◌, ◌∙◌, ap, refl, sym, subst, ℕ, ◌+◌, ◌<◌, ◌≤◌, ◌⊎◌, inl, inr, Bool, true, false, Option, Some, None, arith}
+use Rattle.std.proofs.Common.{◌≡◌, ◌∙◌, ap, refl, sym, subst, ℕ, ◌+◌, ◌≤◌, ◌⊎◌, inl, inr, Bool, false, Option, Some, None, arith}
 use Rattle.std.specs.Prelude.{⊤, ℤ, ◌<ℤ◌, ◌≤ℤ◌, Result, Ok, Err, MatchOption, MatchResult}
 use Rattle.std.proofs.lemmas.Int.{ints}
 use Rattle.tk_clock.specs.declared.clock_id.ClockId.TheVariants.{Realtime}

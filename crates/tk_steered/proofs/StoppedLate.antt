@@ -1,5 +1,5 @@
 -- Where the last account is after seconds have begun late, all or some.
-use Rattle.std.proofs.Common.{◌≡◌, ◌∙◌, ap, refl, sym, subst, ℕ, ◌+◌, ◌<◌, ◌≤◌, ◌⊎◌, inl, inr, true, false, [], ◌∷◌, ◌++◌, List, Option, Some, None, length, length-append, arith}
+use Rattle.std.proofs.Common.{◌≡◌, ◌∙◌, ap, refl, sym, subst, ℕ, ◌≤◌, ◌⊎◌, inl, inr, true, false, [], ◌∷◌, ◌++◌, List, Option, Some, None, length, length-append, arith}
 use Rattle.std.specs.Prelude.{⊤, Result, Ok, Err, MatchOption}
 use Rattle.std.specs.List.{All}
 use Rattle.std.proofs.lemmas.List.{append_assoc, append-nil}
@@ -7,7 +7,7 @@ use Rattle.std.proofs.lemmas.List.Elements.{All-head, All-tail}
 use Rattle.tk_counter.specs.Counter.{half}
 use Rattle.tk_clock.specs.declared.command.Entry.{Entry}
 use Rattle.tk_clock.specs.declared.refusal.Refusal.{Refusal}
-use Rattle.tk_clock.specs.Journal.{Journal, accepted_count, followed_by, last_reading}
+use Rattle.tk_clock.specs.Journal.{Journal, followed_by, last_reading}
 use Rattle.tk_clock.specs.Reach.{distance}
 use Rattle.tk_clock.specs.State.{State}
 use Rattle.tk_clock.proofs.Append.{at_place-last}
