@@ -25,7 +25,7 @@ use Rattle.tk_ntp.specs.SteeredClock.{SteeredClock, given_any, rate_in_force, re
 use Rattle.tk_steered.specs.Kept.{IsAdvancedTo, IsContinuedAt, SteeredKeeper, steered_of}
 
 module _ (who reading : ℕ) where
-  abbrev IsTheirs : Entry → Type 0
+  abbrev pub IsTheirs : Entry → Type 0
   IsTheirs entry = (entry.who ≡ who) × (entry.reading ≡ reading)
 
   continued-self : (journal : Journal) → IsContinuedAt who reading journal journal
@@ -76,7 +76,7 @@ module _ (who reading : ℕ) where
       All-append IsTheirs (made_of who reading tick clock) (made_of who reading frequency next)
       (theirs tick clock) (theirs frequency next)
 
-  theirs-second : (leap : Leap) (begun : SteeredClock) →
+  pub theirs-second : (leap : Leap) (begun : SteeredClock) →
       All IsTheirs (entries_of_second who reading leap begun)
   theirs-second leap begun =
       let cmd = if is_leap leap then Some (leap_of_clock leap begun.clock) else None in

@@ -11,7 +11,7 @@ use Rattle.tk_ntp.specs.Applied.{request_of, without_reply}
 use Rattle.tk_steered.specs.Kept.{IsAnsweredBy, IsAppliedBy, IsObeyed, IsPlainBy, SteeredKeeper, numbered}
 
 -- the same result without a reply has the same number
-same-number : (answer : Result Reply Refusal) (result : Result ⊤ Refusal) (number : ℕ) →
+pub same-number : (answer : Result Reply Refusal) (result : Result ⊤ Refusal) (number : ℕ) →
     result ≡ without_reply answer → numbered result number ≡ numbered answer number
 same-number (Ok reply) result number is = ap (λ r. numbered r number) is
 same-number (Err refusal) result number is = ap (λ r. numbered r number) is

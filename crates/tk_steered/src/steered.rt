@@ -1,4 +1,4 @@
-ghost use Rattle.std.specs.Prelude.{◌≡◌, ◌<◌, ◌≤◌, MatchResult, MatchOption, Some, None};
+ghost use Rattle.std.specs.Prelude.{◌≡◌, ◌<◌, ◌≤◌, pos, IfOk, MatchResult, MatchOption, Some, None};
 
 mod applying;
 mod folding;
@@ -48,6 +48,7 @@ impl<A: Allocator + Copy> Steered<A> {
     ghost use Rattle.tk_clock.specs.Reach.{IsFirstReached, IsNeverReached};
     ghost use Rattle.tk_clock.specs.Time.{nanoseconds};
     ghost use Rattle.tk_keeper.specs.Room.{keeper_state};
+    ghost use Rattle.tk_ntp.specs.Account.{owed, IsMarked};
     ghost use Rattle.tk_ntp.specs.Advance.{second_time};
     ghost use Rattle.tk_ntp.specs.SteeredClock.{steered_refusal};
     ghost use Rattle.tk_steered.specs.Kept.{kept_from, kept_opened, steered_of};
@@ -69,10 +70,12 @@ impl<A: Allocator + Copy> Steered<A> {
         real: Timespec,
         hz: u32,
     ) -> Result<Steered<A>, Refusal>
-        ensures { MatchResult result
+        ensures answer { MatchResult result
             (λ steered. (steered_refusal desc reading real hz ≡ None)
             × (steered ≡ kept_opened desc reading real hz))
             (λ refusal. steered_refusal desc reading real hz ≡ Some refusal) }
+        ensures marked { IfOk result (λ steered. IsMarked (steered_of steered)) }
+        ensures nothing { IfOk result (λ steered. owed (steered_of steered) ≡ pos 0) }
     {
         let keeper = Timekeeper::open(alloc, desc, reading, real)?;
         let clock = SteeredClock::open(desc, reading, real, hz)?;
@@ -95,9 +98,10 @@ impl<A: Allocator + Copy> Steered<A> {
     ///
     /// `Refusal::Invalid` if `front` is above `2^63 - 1`.
     pub fn open_from(alloc: A, steered: SteeredClock, front: u64) -> Result<Steered<A>, Refusal>
-        ensures { MatchResult result
+        ensures answer { MatchResult result
             (λ opened. (front ≤ counted_most) × (opened ≡ kept_from front steered))
             (λ refusal. (counted_most < front) × (refusal ≡ Invalid)) }
+        ensures clocks { IfOk result (λ opened. steered_of opened ≡ steered) }
     {
         let keeper = Timekeeper::open_from(alloc, steered.clock(), front)?;
         Ok(Steered {

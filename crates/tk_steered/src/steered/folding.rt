@@ -5,6 +5,7 @@ ghost use Rattle.tk_clock.specs.Journal.{accepted_count};
 ghost use Rattle.tk_clock.specs.Limits.{listed_most};
 ghost use Rattle.tk_clock.specs.declared.refusal.Refusal.TheVariants.{Memory};
 ghost use Rattle.tk_keeper.specs.Past.{IsFolded};
+ghost use Rattle.tk_steered.specs.Kept.{steered_of};
 
 use super::Steered;
 use std::alloc::Allocator;
@@ -22,6 +23,7 @@ impl<A: Allocator + Copy> Steered<A> {
         ensures same { IsFolded self.old.keeper.journal self.new.keeper.journal }
         ensures began { self.new.keeper.began ≡ self.old.keeper.began }
         ensures course { self.new.course ≡ self.old.course }
+        ensures clocks { steered_of self.new ≡ steered_of self.old }
         ensures spare { self.old.keeper.spare ≤ self.new.keeper.spare }
     {
         self.early = 0;
@@ -43,6 +45,7 @@ impl<A: Allocator + Copy> Steered<A> {
         ensures journal { self.new.keeper.journal ≡ self.old.keeper.journal }
         ensures began { self.new.keeper.began ≡ self.old.keeper.began }
         ensures course { self.new.course ≡ self.old.course }
+        ensures clocks { steered_of self.new ≡ steered_of self.old }
         ensures spare { self.old.keeper.spare ≤ self.new.keeper.spare }
     {
         self.early = 0;
