@@ -124,6 +124,15 @@ class Make(Case):
         self.make_library()
         self.assertEqual(once, [(self.top / "dist/lib" / name).read_bytes() for name in names])
 
+    def test_a_changed_text_is_built(self):
+        self.make_library()
+        archive = self.top / "dist/lib" / SESSION
+        once, built = archive.read_bytes(), archive.stat().st_mtime
+        self.session.write_text(text("tkcore_session.h").replace("$7", "$8"), encoding="utf-8")
+        os.utime(self.session, (built + 1, built + 1))
+        self.assertEqual(0, self.make("dist/lib/libtkcore.a")[0])
+        self.assertNotEqual(once, archive.read_bytes())
+
     def test_a_changed_text_is_found(self):
         self.text.write_text(text().replace("$7", "$8"), encoding="utf-8")
         status, said, errors = self.make("check")
