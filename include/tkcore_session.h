@@ -144,7 +144,7 @@ struct tkc_session tkc_session_begin(void);
  * command that the clocks refuse is no fault: its line is `no,..`.
  *
  * Returns a code, in this order, if the record has a fault. *session is then as it was, byte for
- * byte, and *text is the text of the fault. Except for the first two, it is what tkcore writes after
+ * byte, and *text is the text of the fault. Except for the first two, tkcore writes it after
  * "tkcore: script: ".
  *   TKC_NOT_PLAIN    "not a plain line"
  *   TKC_TOO_MANY     "too many records"
@@ -168,8 +168,8 @@ TKC_PURE uint64_t tkc_session_records(const struct tkc_session *session);
 TKC_PURE uint64_t tkc_session_differences(const struct tkc_session *session);
 
 /* Makes a snapshot of the clocks after the last record, as tkc_clock_snapshot does. Before the
- * first record it is of clocks with REALTIME 0 at reading 0 of a counter with 64 bits, mult 2^24 and
- * shift 24. */
+ * first record it is of clocks with REALTIME 0 at reading 0 of a counter with 64 bits, mult 2^24
+ * and shift 24. */
 TKC_NONNULL
 void tkc_session_snapshot(struct tkc_snapshot *out, const struct tkc_session *session);
 
@@ -184,8 +184,9 @@ TKC_MUST_CHECK
 uint32_t tkc_session_save(uint64_t words[TKC_NTP_SAVED_WORDS], const struct tkc_session *session);
 
 /*
- * Parses a record of `length` bytes that comes after the first one. `number` is its number, counted
- * from 1 without the empty lines. An empty line is an unknown keyword here.
+ * Parses a record of `length` bytes that comes after the first one, and writes all bytes of *row.
+ * `number` is the record's number, 2 or more, and has no effect on the row. An empty line is an
+ * unknown keyword here, so skip it.
  *
  * Returns TKC_NOT_PLAIN, TKC_BAD_WORD, TKC_BAD_FIELDS, TKC_BAD_NUMBER or a code of a counter as
  * tkc_session_record does, and writes nothing then.
