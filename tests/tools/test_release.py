@@ -113,7 +113,9 @@ class Release(Case):
     def test_the_texts_contain_functions_of_the_librarys_crates_only(self):
         for crate, file in making.ARCHIVES.items():
             made = [*release.rattle.crates()[crate].below, release.rattle.crates()[crate]]
-            crates = {name for it in made for name in (it.name, *it.uses)}
+            # (a session compares slices by core)
+            crates = {"core"} if file == "session" else set()
+            crates |= {name for it in made for name in (it.name, *it.uses)}
             for path in sorted(TOP.glob(f"release/*/{file}.s")):
                 text = path.read_text(encoding="utf-8")
                 head = r'(?:\t\.section "?\.(?:text|rodata)(?:\.unlikely)?\.|(?:function|public) "?)'
