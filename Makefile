@@ -19,7 +19,7 @@ BUILT = dist/lib/libtkcore.a dist/bin/report $(if $(filter x86_64,$(MACHINE)),di
 
 all: $(BUILT)
 
-dist/lib/libtkcore.a: $(wildcard release/$(MACHINE)/tkcore.s include/*.h tools/c/*.* docs/tkcore.3)
+dist/lib/libtkcore.a: $(wildcard release/$(MACHINE)/*.s include/*.h tools/c/*.* docs/tkcore.3)
 	CC='$(CC)' tools/assemble library
 
 dist/bin/tkcore: $(PROGRAM) $(wildcard release/*.c)
