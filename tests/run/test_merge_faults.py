@@ -50,7 +50,8 @@ class Faults(RunTest):
                 "a b,1,1,1,0": "not a name", f"{'a' * 32},1,1,1,0": "not a name",
                 "nodes,1,1,1,0": "not a name", "a,-1,1,1,0": number, "a,1,x,1,0": number,
                 "a,1,1,0,0": number, "a,1,1,18446744073709551616,0": number,
-                "a,1,1,1,127": number, "b,1,1,1,0": "the common counter isn't at 0 first, or goes "
+                "a,1,1,1,127": number, "a,1,1,1,0 ": number, "a,+1,1,1,0": number,
+                "a, 1,1,1,0": number, "a,1,1,1,": number, "b,1,1,1,0": "the common counter isn't at 0 first, or goes "
                                                     "back"}.items():
             with self.subTest(line=line):
                 nodes.write_text(f"{whole}{line}\n")
