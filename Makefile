@@ -18,17 +18,17 @@ BUILT = dist/lib/libtkcore.a dist/bin/report $(if $(filter x86_64,$(MACHINE)),di
 
 all: $(BUILT)
 
-dist/lib/libtkcore.a: $(wildcard release/$(MACHINE)/tkcore.s include/*.h tools/c/*.* docs/tkcore.3)
+dist/lib/libtkcore.a: $(wildcard release/$(MACHINE)/*.s include/*.h tools/c/*.* docs/tkcore.3)
 	CC='$(CC)' tools/assemble library
 
 dist/bin/tkcore: $(PROGRAM) $(wildcard release/*.c)
 	CC='$(CC)' tools/assemble program
 
-dist/bin/report: dist/lib/libtkcore_session.a examples/c/report.c
+dist/bin/report: dist/lib/libtkcore.a examples/c/report.c
 	mkdir -p dist/bin
 	$(CC) -O2 -Idist/include examples/c/report.c dist/lib/libtkcore_session.a -o $@
 
-dist/bin/tkrun: dist/lib/libtkcore.a dist/lib/libtkcore_session.a $(wildcard run/*/*)
+dist/bin/tkrun: dist/lib/libtkcore.a $(wildcard run/*/*)
 	tools/build_run --optional
 
 # as many parts at once as there are processors, unless make was called with -j; what a part prints

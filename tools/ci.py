@@ -50,10 +50,11 @@ def check_all(run):
 def prove(run, proofs, libraries, built):
     """Runs `rt ci`, and what needs no proof next to it as soon as the packages are installed.
 
-    check_c starts when the libraries below it are proved. The kernels of check_linux are built on
-    the processors that all others leave idle.
+    check_c starts when the libraries below both archives are proved. The kernels of check_linux are
+    built on the processors that all others leave idle.
     """
-    below = [libraries / f"{it.name}.rlib" for it in rattle.crates()["tk_c"].below]
+    below = [libraries / f"{it.name}.rlib" for name in ("tk_c", "tk_session_c")
+             for it in rattle.crates()[name].below]
 
     def start_all():
         run.start("tests/tools", "python3", "-B", "-m", "unittest", "discover", "-s",

@@ -6,6 +6,7 @@
  * the call, and main above it. At the end it prints the number of instructions that were stepped.
  *
  *     gcc -Wl,--wrap=FUNCTION.. backtraces.c PROGRAM.c libtkcore.a
+ *     gcc -Wl,--wrap=FUNCTION.. -DSESSIONS backtraces.c PROGRAM.c libtkcore_session.a
  */
 #define _GNU_SOURCE
 
@@ -37,6 +38,15 @@ struct caller {
 #include "backtraces_x86_64.h"
 #endif
 
+#ifdef SESSIONS
+STEPPED(tkc_session_begin)
+STEPPED(tkc_session_record)
+STEPPED(tkc_session_records)
+STEPPED(tkc_session_differences)
+STEPPED(tkc_session_snapshot)
+STEPPED(tkc_session_save)
+STEPPED(tkc_row_parse)
+#else
 STEPPED(tkc_version)
 STEPPED(tkc_counter_new)
 STEPPED(tkc_counter_from_hz)
@@ -68,6 +78,7 @@ STEPPED(tkc_snapshot_step)
 STEPPED(tkc_snapshot_convert)
 STEPPED(tkc_snapshot_words)
 STEPPED(tkc_snapshot_from_words)
+#endif
 
 int main(int argc, char **argv);
 

@@ -1,4 +1,4 @@
-"""How often the library for C and those below it are proved for the archives of both backends."""
+"""How often a library for C and those below it are proved for the archives of both backends."""
 from tools import LOGIC, Case
 
 # writes what -o names, and a line into the file calls: the command, the crate and some arguments
@@ -25,19 +25,20 @@ class Archive(Case):
         self.stand_in("rt", f'[ "$1" = doc ] && exec echo "{self.room}/kit/START-HERE.md"\n'
                             f'echo "rattle-kit-99z logic {LOGIC}"')
         self.top = self.copy()
-        (self.top / "crates.txt").write_text("low:\ntk_c staticlib: low\n", encoding="utf-8")
-        for name in "low", "tk_c":
+        (self.top / "crates.txt").write_text("low:\ntk_c staticlib: low\nother staticlib:\n",
+                                             encoding="utf-8")
+        for name in "low", "tk_c", "other":
             path = self.top / "crates" / name / "src" / "lib.rt"
             path.parent.mkdir(parents=True)
             path.write_text("\n", encoding="utf-8")
 
-    def made(self, backend, broken="none"):
+    def made(self, backend, broken="none", *more):
         """Makes an archive. Returns the status, the output and the calls of rattle."""
         self.stand_in("rattle", RATTLE % (self.room, broken))
         calls = self.room / "calls"
         calls.write_text("", encoding="utf-8")
         status, said, errors = self.run_tool("tools/c/archive.py", str(self.room / "kept"), backend,
-                                             "a-target", str(self.room / f"{backend}.a"),
+                                             "a-target", str(self.room / f"{backend}.a"), *more,
                                              top=self.top)
         self.assertEqual("", errors)
         return status, said, calls.read_text(encoding="utf-8").splitlines()
@@ -51,6 +52,12 @@ class Archive(Case):
                          self.made("rattle")[::2])
         for name in "llvm.a", "rattle.a":
             self.assertTrue((self.room / name).is_file())
+
+    def test_another_crate_may_be_named(self):
+        static = "other --crate-type=staticlib"
+        self.assertEqual((0, [f"check {static} --target=a-target logic",
+                              f"build {static} checked --backend=llvm --target=a-target"]),
+                         self.made("llvm", "none", "other")[::2])
 
     def test_a_change_is_proved_anew(self):
         self.made("llvm")

@@ -224,9 +224,11 @@ class Ci(Case):
         begun = self.room / "begun"
         self.stub("check_c", f"touch {begun}\n{KEEPS}\necho done")
         self.stub("rt ci", f"""[ "$3" = --libraries ] && mkdir "$4" || exit 4
-            for name in tk_counter tk_clock tk_lanes tk_line; do mkdir "$4/$name.rlib"; done
+            for name in counter clock lanes line ntp keeper steered script report; do
+                mkdir "$4/tk_$name.rlib"
+            done
             sleep 1
-            [ ! -e {begun} ] && mkdir "$4/tk_ntp.rlib" || exit 5
+            [ ! -e {begun} ] && mkdir "$4/tk_session.rlib" || exit 5
             {until(f"[ -e {begun} ]")}""")
         status, verdicts, _, said = self.run_ci()
         self.assertEqual((0, "ran", "ran"), (status, verdicts["rt ci"], verdicts["check_c"]), said)

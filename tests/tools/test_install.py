@@ -3,8 +3,10 @@ import subprocess
 
 from tools import Case
 
-LIBRARY = ["include/tkcore.h", "lib/libtkcore.a", "lib/libtkcore.so", "lib/libtkcore.so.0",
-           "lib/pkgconfig/tkcore.pc", "share/doc/tkcore/C.md", "share/man/man3/tkcore.3"]
+LIBRARY = ["include/tkcore.h", "include/tkcore_session.h", "lib/libtkcore.a",
+           "lib/libtkcore_session.a", "lib/libtkcore.so", "lib/libtkcore.so.0",
+           "lib/pkgconfig/tkcore-session.pc", "lib/pkgconfig/tkcore.pc", "share/doc/tkcore/C.md",
+           "share/man/man3/tkcore.3"]
 LICENCES = ["share/doc/tkcore/LICENSE-APACHE", "share/doc/tkcore/LICENSE-MIT"]
 COMPLETION = ["share/bash-completion/completions/{}", "share/zsh/site-functions/_{}"]
 PLOT = ["bin/tkcore-plot", *(f"share/tkcore/plot_parts/{it}.py"

@@ -9,17 +9,21 @@ import unittest
 from tools import TOP, Case
 
 SHARED = "libtkcore.so.0"
+SESSION = "libtkcore_session.a"
 # what `make check` runs
 PARTS = ["check_run", "check_c-calls", "check_c-pages", "check_c-orders", "check_c-uses",
          "check_c-definitions"]
 CALLER = """#include <tkcore.h>
 int main(void) { return tkc_version() != 7; }
 """
+SESSION_CALLER = """#include <tkcore_session.h>
+int main(void) { static struct tkc_session it; return tkc_session_records(&it) != 7; }
+"""
 
 
-def text():
-    """Returns a text with each function that the header declares. tkc_version returns 7."""
-    header = (TOP / "include/tkcore.h").read_text(encoding="utf-8")
+def text(name="tkcore.h"):
+    """Returns a text with each function that a header declares. tkc_version returns 7."""
+    header = (TOP / "include" / name).read_text(encoding="utf-8")
     plain = re.sub(r"^TKC_INLINE.*?^}", "", header, flags=re.M | re.S)
     names = sorted(set(re.findall(r"\b(tkc_[a-z_]+)\(", plain)))
     lines = [f".globl {name}\n.type {name}, @function\n{name}: mov $7, %eax\nret" for name in names]
@@ -34,9 +38,12 @@ class Make(Case):
         self.text = self.top / "release/x86_64/tkcore.s"
         self.text.parent.mkdir(parents=True)
         self.text.write_text(text(), encoding="utf-8")
-        total = hashlib.sha256(self.text.read_bytes()).hexdigest()
-        (self.top / "release/MANIFEST").write_text(
-            f"# What they are\n\n[library]\n{total}  x86_64/tkcore.s\n", encoding="utf-8")
+        self.session = self.text.parent / "session.s"
+        self.session.write_text(text("tkcore_session.h"), encoding="utf-8")
+        sums = "".join(f"{hashlib.sha256(it.read_bytes()).hexdigest()}  x86_64/{it.name}\n"
+                       for it in (self.text, self.session))
+        (self.top / "release/MANIFEST").write_text(f"# What they are\n\n[library]\n{sums}",
+                                                   encoding="utf-8")
 
     def make(self, *words):
         """Runs make with the stand-ins. Returns its status, its output and its errors."""
@@ -61,6 +68,8 @@ class Make(Case):
         self.assertEqual((0, ""), (status, errors))
         prefix = self.room / "to/opt/tk"
         for name in ("include/tkcore.h", f"{libdir}/libtkcore.a", f"{libdir}/{SHARED}",
+                     "include/tkcore_session.h", f"{libdir}/{SESSION}",
+                     f"{libdir}/pkgconfig/tkcore-session.pc",
                      f"{libdir}/pkgconfig/tkcore.pc", "share/man/man3/tkcore.3"):
             self.assertIn(f"{prefix}/{name}", said.split())
             self.assertTrue((prefix / name).is_file(), name)
@@ -69,24 +78,29 @@ class Make(Case):
 
     def check_pkg_config(self, prefix, libdir):
         """pkg-config's flags build a program that finds the library there."""
-        flags = subprocess.run(["pkg-config", "--cflags", "--libs", "tkcore"], check=True,
-                               capture_output=True, text=True, env={
-                                   **os.environ, "PKG_CONFIG_PATH": prefix / libdir / "pkgconfig"})
-        subprocess.run(["gcc", "-x", "c", "-", "-o", self.room / "caller", *flags.stdout.split()],
-                       input=CALLER, text=True, check=True)
-        subprocess.run([self.room / "caller"], check=True,
-                       env={"LD_LIBRARY_PATH": prefix / libdir})
+        found = {**os.environ, "PKG_CONFIG_PATH": prefix / libdir / "pkgconfig"}
+        for name, caller in ("tkcore", CALLER), ("tkcore-session", SESSION_CALLER):
+            flags = subprocess.run(["pkg-config", "--cflags", "--libs", name], check=True,
+                                   capture_output=True, text=True, env=found).stdout.split()
+            self.assertEqual([f"-I{prefix}/include", f"-L{prefix}/{libdir}"],
+                             [os.path.normpath(it) if it[:2] in ("-I", "-L") else it
+                              for it in flags[:2]])
+            subprocess.run(["gcc", "-x", "c", "-", "-o", self.room / "caller", *flags],
+                           input=caller, text=True, check=True)
+            subprocess.run([self.room / "caller"], check=True,
+                           env={"LD_LIBRARY_PATH": prefix / libdir})
 
     def check_cmake(self, prefix, libdir):
         project = self.room / "project"
         project.mkdir()
         shutil.copy(TOP / "tests/c/CMakeLists.txt", project)
         (project / "convert.c").write_text(CALLER, encoding="utf-8")
+        (project / "session_links.c").write_text(SESSION_CALLER, encoding="utf-8")
         for words in (["-S", project, "-B", project / "out", "-DWANTED=0",
                        f"-Dtkcore_DIR={prefix}/{libdir}/cmake/tkcore"],
                       ["--build", project / "out"]):
             subprocess.run(["cmake", *words], check=True, capture_output=True)
-        for name in "shared", "static":
+        for name in "shared", "static", "session":
             subprocess.run([project / "out" / name], check=True)
 
     def test_the_library_is_installed_where_each_system_looks_for_it(self):
@@ -102,13 +116,22 @@ class Make(Case):
 
     def test_the_archive_is_the_same_in_another_folder(self):
         self.make_library()
-        once = [(self.top / "dist/lib" / name).read_bytes() for name in ("libtkcore.a", SHARED)]
+        names = "libtkcore.a", SHARED, SESSION
+        once = [(self.top / "dist/lib" / name).read_bytes() for name in names]
         other = self.room / "another/folder"
         shutil.copytree(self.top, other)
         self.top = other
         self.make_library()
-        self.assertEqual(once, [(self.top / "dist/lib" / name).read_bytes()
-                                for name in ("libtkcore.a", SHARED)])
+        self.assertEqual(once, [(self.top / "dist/lib" / name).read_bytes() for name in names])
+
+    def test_a_changed_text_is_built(self):
+        self.make_library()
+        archive = self.top / "dist/lib" / SESSION
+        once, built = archive.read_bytes(), archive.stat().st_mtime
+        self.session.write_text(text("tkcore_session.h").replace("$7", "$8"), encoding="utf-8")
+        os.utime(self.session, (built + 1, built + 1))
+        self.assertEqual(0, self.make("dist/lib/libtkcore.a")[0])
+        self.assertNotEqual(once, archive.read_bytes())
 
     def test_a_changed_text_is_found(self):
         self.text.write_text(text().replace("$7", "$8"), encoding="utf-8")
@@ -202,11 +225,37 @@ class Make(Case):
         self.assertEqual(2, status)
         self.assertIn("tools/c/folder: the archive needs of other files: there\n", errors)
 
+    def fails_with_session(self, source, why):
+        """Builds with these lines more in the text of sessions."""
+        self.session.write_text(text("tkcore_session.h") + source, encoding="utf-8")
+        status, _, errors = self.make("dist/lib/libtkcore.a")
+        self.assertEqual(2, status)
+        self.assertIn(why, errors)
+
+    def test_sessions_may_call_only_four_functions(self):
+        calls = ".text\n" + "".join(f"call mem{it}\n" for it in ("cpy", "move", "set", "cmp"))
+        self.session.write_text(text("tkcore_session.h") + calls, encoding="utf-8")
+        self.make_library()
+        self.fails_with_session(f"{calls}call memchr\n", "tools/c/folder: the archive of sessions "
+                                "needs of other files: memchr\n")
+
+    def test_a_function_of_sessions_that_the_header_lacks_is_found(self):
+        self.fails_with_session(".text\n.globl tkc_more\ntkc_more: ret\n", "> tkc_more\ntools/c/"
+                                "folder: the header (<) and the archive of sessions (>) have other "
+                                "functions\n")
+        self.session.write_text(text("tkcore_session.h").replace(".globl tkc_row_parse\n", ""),
+                                encoding="utf-8")
+        self.assertIn("< tkc_row_parse\n", self.make("dist/lib/libtkcore.a")[2])
+
     def fails(self, sentence, *words):
         status, said, errors = self.make("dist/lib/libtkcore.a", *words)
         self.assertEqual((2, ""), (status, said))
         lines = [it for it in errors.splitlines() if not it.startswith("make: ***")]
         self.assertEqual([sentence], lines)
+
+    def test_a_missing_text_is_one_sentence(self):
+        self.session.unlink()
+        self.fails("assemble: cc builds for x86_64-linux-gnu, and release/ has no session.s for it")
 
     def test_another_processor_is_one_sentence(self):
         self.stand_in("cross-gcc", "echo riscv64-linux-gnu")

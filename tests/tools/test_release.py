@@ -28,14 +28,15 @@ class Release(Case):
         self.folder = self.room / "release"
         self.folder.mkdir()
         self.enterContext(mock.patch.object(release, "RELEASE", self.folder))
-        self.texts = {"library": {"x86_64/tkcore.s": b"one", "aarch64/tkcore.s": b"two"},
+        self.texts = {"library": {"x86_64/tkcore.s": b"one", "aarch64/tkcore.s": b"two",
+                                  "x86_64/session.s": b"five", "aarch64/session.s": b"six"},
                       "program": {"x86_64/program.s.gz": b"three",
                                   "aarch64/program.s.gz": b"four"}}
         self.enterContext(mock.patch.dict(making.PARTS, {
             name: lambda _, out, name=name: self.make(name, out) for name in self.texts}))
         self.enterContext(mock.patch.object(release.rattle, "require_logic"))
         self.enterContext(mock.patch.dict(making.SOURCES, {
-            "library": ("tk_counter", ("c/text",)), "program": ("tk_clock", ())}))
+            "library": (["tk_counter"], ("c/text",)), "program": (["tk_clock"], ())}))
 
     def make(self, part, out):
         """Stands in for what proves and compiles a part."""
@@ -63,8 +64,9 @@ class Release(Case):
         parts = manifest.read(self.folder)
         self.assertEqual(["library", "program", "sources"], sorted(parts))
         self.assertEqual(["kit: one", "tk_c: logic=proved"], parts["program"][:2])
-        self.assertEqual(["aarch64/program.s.gz", "aarch64/tkcore.s", "x86_64/program.s.gz",
-                          "x86_64/tkcore.s"], sorted(manifest.files(parts)))
+        self.assertEqual(["aarch64/program.s.gz", "aarch64/session.s", "aarch64/tkcore.s",
+                          "x86_64/program.s.gz", "x86_64/session.s", "x86_64/tkcore.s"],
+                         sorted(manifest.files(parts)))
 
     def test_the_same_release_is_verified(self):
         self.run_release("library", "program")
@@ -95,26 +97,37 @@ class Release(Case):
         why = f"tools/release: {built}/tkcore.s isn't there; tools/build_c makes it\n"
         self.assertEqual((1, "", why), self.run_release("--compare", str(built)))
         (built / "tkcore.s").write_bytes(b"two")
+        why = why.replace("tkcore.s", "session.s")
+        self.assertEqual((1, "", why), self.run_release("--compare", str(built), "aarch64"))
+        (built / "session.s").write_bytes(b"six")
         self.assertEqual((0, "", ""), self.run_release("--compare", str(built), "aarch64"))
-        why = (f"tools/release: {self.folder}/x86_64/tkcore.s isn't the proved library's text: "
+        self.check_differs(built, "tkcore.s")
+        (built / "tkcore.s").write_bytes(b"one")
+        self.check_differs(built, "session.s")
+
+    def check_differs(self, built, name):
+        why = (f"tools/release: {self.folder}/x86_64/{name} isn't the proved library's text: "
                "tools/release library makes it anew\n")
         self.assertEqual((1, "", why), self.run_release("--compare", str(built)))
 
     def test_the_texts_contain_functions_of_the_librarys_crates_only(self):
-        crates = {"tk_counter", "tk_clock", "tk_lanes", "tk_line", "tk_ntp", "tk_c"}
-        for path in sorted(TOP.glob("release/*/tkcore.s")):
-            text = path.read_text(encoding="utf-8")
-            head = r'(?:\t\.section "?\.(?:text|rodata)(?:\.unlikely)?\.|(?:function|public) "?)'
-            named = set(re.findall(rf"^{head}([\w:]+)", text, re.M))
-            self.assertGreater(len(named), 40)
-            # (cst16 contains constants of 16 bytes)
-            self.assertEqual([], sorted(it for it in named if not it.startswith(("tkc_", "cst"))
-                                        and it.partition("::")[0] not in crates))
+        for crate, file in making.ARCHIVES.items():
+            made = [*release.rattle.crates()[crate].below, release.rattle.crates()[crate]]
+            crates = {name for it in made for name in (it.name, *it.uses)}
+            for path in sorted(TOP.glob(f"release/*/{file}.s")):
+                text = path.read_text(encoding="utf-8")
+                head = r'(?:\t\.section "?\.(?:text|rodata)(?:\.unlikely)?\.|(?:function|public) "?)'
+                named = set(re.findall(rf"^{head}([\w:]+)", text, re.M))
+                self.assertGreater(len(named), 40)
+                # (cst16 contains constants of 16 bytes)
+                self.assertEqual([], sorted(it for it in named if not it.startswith(("tkc_", "cst"))
+                                            and it.partition("::")[0] not in crates))
 
     def test_the_texts_of_the_library_are_small(self):
-        sizes = [path.stat().st_size for path in TOP.glob("release/*/tkcore.s")]
-        self.assertEqual(2, len(sizes))
-        self.assertLess(sum(sizes), 500_000)
+        for file, most in ("tkcore", 500_000), ("session", 1_500_000):
+            sizes = [path.stat().st_size for path in TOP.glob(f"release/*/{file}.s")]
+            self.assertEqual(2, len(sizes))
+            self.assertLess(sum(sizes), most)
 
     def test_the_manifest_lists_the_texts_of_the_tree(self):
         parts = manifest.read(TOP / "release")
@@ -243,16 +256,17 @@ class Release(Case):
                          manifest.read(self.folder)["library"][2])
 
     def test_the_sources_of_each_part(self):
-        for part, crate, has, lacks in [("library", "tk_c", "tools/c/text", "tools/c/module"),
-                                        ("program", "tkcore", "tools/c/text", "tools/c/module"),
-                                        ("module", "tk_c", "tools/c/module", "tools/c/text")]:
+        both = ["tk_c", "tk_session_c"]
+        for part, made, has, lacks in [("library", both, "tools/c/text", "tools/c/module"),
+                                       ("program", ["tkcore"], "tools/c/text", "tools/c/module"),
+                                       ("module", both, "tools/c/module", "tools/c/text")]:
             with self.subTest(part), mock.patch.dict(making.SOURCES, SOURCES):
                 names = making.sources_of(part)
                 self.assertIn(has, names)
                 self.assertNotIn(lacks, names)
                 crates = {name.split("/")[1] for name in names if name.startswith("crates/")}
-                below = {it.name for it in release.rattle.crates()[crate].below}
-                self.assertEqual({crate, *below}, crates)
+                below = {it.name for name in made for it in release.rattle.crates()[name].below}
+                self.assertEqual({*made, *below}, crates)
 
     def git_tree(self, top, names):
         """Returns the id that git gives a tree of these files."""

@@ -184,12 +184,12 @@ class ReleaseText(Case):
         self.assertIn(f"{said}", self.assembled(said + again))
 
     def test_every_assembler_makes_the_librarys_objects(self):
-        for path in sorted(TOP.glob("release/*/tkcore.s")):
+        for path in sorted(TOP.glob("release/*/*.s")):
             machine = path.parent.name
             prefix = "" if machine == "x86_64" else f"{machine}-linux-gnu-"
             if not shutil.which("clang") or not shutil.which(f"{prefix}as"):
                 continue
-            with self.subTest(machine):
+            with self.subTest(f"{machine}/{path.name}"):
                 other = self.room / "other.o"
                 subprocess.run([f"{prefix}as", path, "-o", self.object], check=True)
                 subprocess.run(["clang", f"--target={machine}-linux-gnu", "-c", path, "-o", other],

@@ -1,10 +1,11 @@
 #!/usr/bin/env python3
-"""Proves and compiles the crate tk_c over libraries that are kept, for tools/build_c.
+"""Proves and compiles a static library over libraries that are kept, for tools/build_c.
 
-    tools/c/archive.py LIBRARIES llvm|rattle TARGET ARCHIVE
+    tools/c/archive.py LIBRARIES llvm|rattle TARGET ARCHIVE [CRATE]
 
-The proved libraries below the crate are in the folder LIBRARIES, or are built there. The crate is
-proved there once for each target, for both backends. It ends with status 1 if a crate isn't proved.
+The proved libraries below the crate (tk_c) are in the folder LIBRARIES, or are built there. The crate
+is proved there once for each target, for both backends. It ends with status 1 if a crate isn't
+proved.
 """
 import pathlib
 import sys
@@ -14,8 +15,8 @@ sys.path.append(str(pathlib.Path(__file__).resolve().parent.parent))
 import rattle  # noqa: E402
 
 
-def main(libraries, backend, target, archive):
-    crate, libraries = rattle.crates()["tk_c"], pathlib.Path(libraries).resolve()
+def main(libraries, backend, target, archive, name="tk_c"):
+    crate, libraries = rattle.crates()[name], pathlib.Path(libraries).resolve()
     libraries.mkdir(parents=True, exist_ok=True)
     if not rattle.build_all(crate.below, libraries):
         return 1

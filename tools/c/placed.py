@@ -37,6 +37,13 @@ def instructions(path, section):
     return found
 
 
+def sections(path):
+    """The names of the object's sections."""
+    words = ["objdump", "-h", "-w", path]
+    found = subprocess.run(words, capture_output=True, check=True, text=True).stdout
+    return set(re.findall(r"^ *[0-9]+ (\S+)", found, re.M))
+
+
 def jumps(path, section):
     """The first byte and the end of each jump, with the instruction that is fused with it."""
     before = (0, 0, "")
@@ -62,7 +69,7 @@ def place(path, section):
 
 def main(path):
     print("SECTIONS\n{")
-    for section in PLACED:
+    for section in [it for it in PLACED if it in sections(path)]:
         distance = place(path, section)
         print(f"  {section} 0 : ALIGN({LINE}) SUBALIGN(1) {{ . = . + {distance}; *({section}) }}")
     print("}")

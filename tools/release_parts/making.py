@@ -1,5 +1,5 @@
-"""Makes the parts of release/ from the proofs: the texts of the library and of the program, and the
-library's modules."""
+"""Makes the parts of release/ from the proofs: the texts of the library, of sessions and of the
+program, and modules of the first two."""
 import gzip
 import pathlib
 import subprocess
@@ -12,8 +12,10 @@ from . import manifest, sources
 MACHINES = ("x86_64", "aarch64")
 TOOLS = ("c/text", "c/placed.py", "c/unwind/*.py", "release_text/*.py")  # what shapes a text
 LINKING = ("c/module",)  # what shapes a module
-# the crate of each part, and the tools besides
-SOURCES = {"library": ("tk_c", TOOLS), "program": ("tkcore", TOOLS), "module": ("tk_c", LINKING)}
+ARCHIVES = {"tk_c": "tkcore", "tk_session_c": "session"}  # the name of each crate's text and module
+# the crates of each part, and the tools besides
+SOURCES = {"library": ([*ARCHIVES], TOOLS), "program": (["tkcore"], TOOLS),
+           "module": ([*ARCHIVES], LINKING)}
 COMPILERS = ("bin/rattle", "toolchain/bin/clang", "toolchain/bin/llvm-ar")
 # the first processor of each kind, so that the program needs no test of the processor
 FIRST = {"x86_64": "x86-64", "aarch64": "generic"}
@@ -32,9 +34,14 @@ def run(*command):
 
 def sources_of(part):
     """Returns the names of the files that a part is made from."""
-    name, tools = SOURCES[part]
-    crate = rattle.crates()[name]
-    return sources.found([*crate.below, crate], tools)
+    names, tools = SOURCES[part]
+    return sources.found([*below(part), *(rattle.crates()[name] for name in names)], tools)
+
+
+def below(part):
+    """Returns the crates below those of a part, lowest first."""
+    return list(dict.fromkeys(it for name in SOURCES[part][0]
+                              for it in rattle.crates()[name].below))
 
 
 def all_sources(parts):
@@ -58,40 +65,46 @@ def verdict_of(crate, status, said):
     return rattle.verdict_in(said)
 
 
-def prove_below(crate, libraries):
-    if not rattle.build_all(crate.below, libraries):
-        raise Failed(f"not all crates below {crate.name} are proved")
+def prove_below(part, libraries):
+    if not rattle.build_all(below(part), libraries):
+        raise Failed(f"not all crates below {' and '.join(SOURCES[part][0])} are proved")
 
 
 def begun(part, libraries, maker=("gas", "as")):
-    """Proves the crates below that of a part. Returns the part's first lines."""
-    crate = rattle.crates()[SOURCES[part][0]]
-    prove_below(crate, libraries)
-    if unknown := [it.name for it in crate.below if not it.verdict(libraries).exists()]:
+    """Proves the crates below those of a part. Returns the part's first lines."""
+    prove_below(part, libraries)
+    if unknown := [it.name for it in below(part) if not it.verdict(libraries).exists()]:
         raise Failed(f"{libraries} has no verdicts of {' '.join(unknown)}")
     kit = [manifest.line_of(rattle.kit() / name, f"KIT/{name}") for name in COMPILERS]
     verdicts = [f"{it.name}: {it.verdict(libraries).read_text(encoding='utf-8').strip()}"
-                for it in crate.below]
+                for it in below(part)]
     name, program = maker
     version = run(program, "--version").decode().splitlines()[0]
     return [f"kit: {rattle.rt('version')}", *kit, f"{name}: {version}",
             sources.total(sources_of(part)), *verdicts]
 
 
+def compiled(name, target, libraries, tool, *words):
+    """Proves and compiles an archive, and passes it to a tool of tools/c. Returns the line of the
+    verdict."""
+    crate = rattle.crates()[name]
+    with tempfile.TemporaryDirectory() as room:
+        archive = pathlib.Path(room, f"lib{name}.a")
+        verdict = verdict_of(crate, *crate.archive(libraries, "llvm", target, archive))
+        run(rattle.ROOT / "tools" / "c" / tool, archive, *words)
+    return f"{name}: {verdict}"
+
+
 def library(libraries, out):
-    """Writes the library's text for each machine, and returns the lines of its part."""
-    crate = rattle.crates()["tk_c"]
+    """Writes the texts of the archives for each machine, and returns the lines of their part."""
     lines, texts = begun("library", libraries), []
-    for machine in MACHINES:
-        text = out / machine / "tkcore.s"
-        text.parent.mkdir(parents=True, exist_ok=True)
-        with tempfile.TemporaryDirectory() as room:
-            archive = pathlib.Path(room, "libtk_c.a")
-            verdict = verdict_of(crate, *crate.archive(
-                libraries, "llvm", f"{machine}-unknown-linux-gnu", archive))
-            run(rattle.ROOT / "tools" / "c" / "text", archive, machine, text)
-        lines.append(f"{crate.name}: {verdict}")
-        texts.append(manifest.line_of(text, f"{machine}/{text.name}"))
+    for name, file in ARCHIVES.items():
+        for machine in MACHINES:
+            text = out / machine / f"{file}.s"
+            text.parent.mkdir(parents=True, exist_ok=True)
+            lines.append(compiled(name, f"{machine}-unknown-linux-gnu", libraries, "text", machine,
+                                  text))
+            texts.append(manifest.line_of(text, f"{machine}/{text.name}"))
     return lines + texts
 
 
@@ -134,7 +147,7 @@ def differences_of_program(libraries, machine, packed):
     """Compiles the program, and compares it with what gas makes of its compressed text. Returns how
     they differ, or "".
     """
-    prove_below(rattle.crates()["tkcore"], libraries)
+    prove_below("program", libraries)
     with tempfile.TemporaryDirectory() as room:
         made, text = pathlib.Path(room, "tkcore.o"), pathlib.Path(room, "program.s")
         text.write_bytes(run("gzip", "-dc", packed))
@@ -147,15 +160,12 @@ def differences_of_program(libraries, machine, packed):
 
 
 def module(libraries, out):
-    """Writes the library's modules, and returns the lines of their part."""
-    crate = rattle.crates()["tk_c"]
+    """Writes the modules of the archives, and returns the lines of their part."""
     lines = begun("module", libraries, ("binaryen", "wasm-opt"))
-    with tempfile.TemporaryDirectory() as room:
-        archive = pathlib.Path(room, "libtk_c.a")
-        built = crate.archive(libraries, "llvm", "wasm64-unknown-unknown", archive)
-        lines.append(f"{crate.name}: {verdict_of(crate, *built)}")
-        run(rattle.ROOT / "tools" / "c" / "module", archive, out)
-    names = [f"{machine}/tkcore.wasm" for machine in ("wasm64", "wasm32")]
+    lines += [compiled(name, "wasm64-unknown-unknown", libraries, "module", out, file)
+              for name, file in ARCHIVES.items()]
+    names = [f"{machine}/{file}.wasm" for file in ARCHIVES.values()
+             for machine in ("wasm64", "wasm32")]
     return lines + [manifest.line_of(out / name, name) for name in names]
 
 
