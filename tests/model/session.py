@@ -17,7 +17,7 @@ import model
 from compare import records, steered_records
 
 END = b"="
-EXAMPLES = pathlib.Path(__file__).parent.parent.parent / "crates/tk_examples/data"
+EXAMPLES = pathlib.Path(__file__).resolve().parents[2] / "crates/tk_examples/data"
 
 
 def is_plain(text):

@@ -14,9 +14,9 @@ ENTRY = "\t.byte 0x80 + 16\n\t.uleb128 1\n"  # the return address is 1 * 8 bytes
 
 PREFIXES = {"bnd", "notrack", "lock", "rep", "repz", "repnz", "data16", "cs", "ds", "es"}
 # They change rsp by another size than 8, rsp, rbp or rbx without naming it, a second operand, or
-# the flow in their own way.
-UNKNOWN = re.compile(r"(push|pop)([fw]| WORD| [^r].$| r\d+w)|enter|leave|xchg|xadd|cmpxchg|cpuid|"
-                     r"sys|int |iret|lret|loop|xbegin|\(bad\)|\.byte")
+# the flow in their own way. (`xchg ax,ax` does nothing.)
+UNKNOWN = re.compile(r"(push|pop)([fw]| WORD| [^r].$| r\d+w)|enter|leave|xchg(?! ax,ax$)|xadd|"
+                     r"cmpxchg|cpuid|sys|int |iret|lret|loop|xbegin|\(bad\)|\.byte")
 FILLER = re.compile("nop|int3|ud2|xchg ax,ax")
 ENDS = {"ud2", "int3", "hlt"}
 SIZES = {"BYTE": 1, "WORD": 2, "DWORD": 4, "QWORD": 8, "XMMWORD": 16}
