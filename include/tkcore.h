@@ -165,7 +165,8 @@ extern "C" {
 /* The number of 64-bit words that steered clocks are saved as, with their counter. */
 #define TKC_NTP_SAVED_WORDS 33
 
-/* The codes that calls return. The numbers 48 to 63 are kept for tkcore_page.h. */
+/* The codes that calls return. The numbers 48 to 63 are kept for tkcore_page.h, and 64 to 79 for
+ * tkcore_session.h. */
 enum tkc_code {
 	/* The call is done. */
 	TKC_OK = 0,

@@ -67,6 +67,7 @@ static void try_parsed(const struct parsed *parsed)
 	for (size_t i = 0; i < COUNT_OF(numbers); i++) {
 		struct tkc_row row;
 
+		case_number = numbers[i];
 		memset(&row, i ? STALE : 0xff, sizeof(row));
 		check(!tkc_row_parse(&row, numbers[i], parsed->record, parsed->length));
 		check(!memcmp(&row, &parsed->row, sizeof(row)));

@@ -18,12 +18,12 @@ number_of BadShift = 33
 number_of BadMult = 34
 number_of BadAdjust = 35
 number_of BadRate = 36
-number_of NotPlain = 48
-number_of TooMany = 49
-number_of BadOpening = 50
-number_of BadWord = 51
-number_of BadFields = 52
-number_of BadNumber = 53
+number_of NotPlain = 64
+number_of TooMany = 65
+number_of BadOpening = 66
+number_of BadWord = 67
+number_of BadFields = 68
+number_of BadNumber = 69
 
 -- the code of a fault of a counter's numbers
 abbrev pub code_of_counter : DescError → Code

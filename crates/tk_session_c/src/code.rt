@@ -23,17 +23,17 @@ pub enum Code {
     BadRate = 36,
     /// The record contains a quote, a carriage return or a line feed, or the first record begins
     /// with the byte 0xef.
-    NotPlain = 48,
+    NotPlain = 64,
     /// The session has counted 2^64 - 1 records.
-    TooMany = 49,
+    TooMany = 65,
     /// The first record is no opening, or no clocks can begin with its values.
-    BadOpening = 50,
+    BadOpening = 66,
     /// The keyword or the name of a clock is unknown.
-    BadWord = 51,
+    BadWord = 67,
     /// The record has too few or too many fields for its keyword.
-    BadFields = 52,
+    BadFields = 68,
     /// A field isn't a number, or the number is out of the range of its type.
-    BadNumber = 53,
+    BadNumber = 69,
 }
 
 impl Code {
