@@ -13,7 +13,6 @@ PREFIX = /usr/local
 LIBDIR = lib
 MACHINE := $(firstword $(subst -, ,$(shell $(CC) -dumpmachine)))
 PROGRAM := $(wildcard release/$(MACHINE)/program.s.gz)
-REPORT := $(wildcard examples/c/report.c run/script/script.c run/script/record.c)
 BUILT = dist/lib/libtkcore.a dist/bin/report $(if $(filter x86_64,$(MACHINE)),dist/bin/tkrun) \
 	$(if $(PROGRAM),dist/bin/tkcore)
 
@@ -25,9 +24,9 @@ dist/lib/libtkcore.a: $(wildcard release/$(MACHINE)/*.s include/*.h tools/c/*.* 
 dist/bin/tkcore: $(PROGRAM) $(wildcard release/*.c)
 	CC='$(CC)' tools/assemble program
 
-dist/bin/report: dist/lib/libtkcore.a $(REPORT)
+dist/bin/report: dist/lib/libtkcore.a examples/c/report.c
 	mkdir -p dist/bin
-	$(CC) -O2 -Idist/include -Irun $(REPORT) dist/lib/libtkcore.a -o $@
+	$(CC) -O2 -Idist/include examples/c/report.c dist/lib/libtkcore_session.a -o $@
 
 dist/bin/tkrun: dist/lib/libtkcore.a $(wildcard run/*/*)
 	tools/build_run --optional

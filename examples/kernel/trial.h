@@ -3,7 +3,7 @@
 #ifndef TRIAL_H
 #define TRIAL_H
 
-#include "script/script.h"
+#include "script.h"
 #include "clocks.h"
 
 #include <linux/ktime.h>

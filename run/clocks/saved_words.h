@@ -11,9 +11,12 @@ enum saved_word {
 	SAVED_PART = 3,	     /* MONOTONIC's ns there, in 2^-shift ns */
 	SAVED_SECOND = 4,    /* MONOTONIC's second there */
 	SAVED_REAL_OFFSET = 5,
-	SAVED_SHIFT = 12,    /* of the counter */
+	SAVED_BITS = 10,     /* of the counter */
+	SAVED_MULT = 11,
+	SAVED_SHIFT = 12,
 	SAVED_FREQUENCY = 13,
 	SAVED_TICK = 14,
+	SAVED_HZ = 15,	     /* of the discipline */
 	SAVED_STATE = 17,    /* enum tkc_time_state */
 	SAVED_PHASE = 20,
 	SAVED_GAIN = 25,     /* of the frequency, in a second */

@@ -7,7 +7,6 @@
 #define _GNU_SOURCE
 #include "recording.h"
 #include "texts.h"
-#include "script/script.h"
 #include "tkrun/signals.h"
 
 #include <inttypes.h>
@@ -75,7 +74,7 @@ static bool has_value(const struct record_row *row, const char *line)
 {
 	char value[LINE_MOST];
 	int length = snprintf(value, sizeof(value), "at,%s,%" PRId64 ".%09" PRIu32,
-			      script_clock_word(row->kind - ROW_READ),
+			      text_clock(row->kind - ROW_READ),
 			      row->number, row->nsec);
 
 	return !strncmp(line, value, (size_t)length) &&

@@ -4,8 +4,7 @@
 #include "merge.h"
 
 #include "recording.h"
-#include "clocks/saved_words.h"
-#include "script/steered.h"
+#include "script/script.h"
 
 #include <errno.h>
 #include <limits.h>
@@ -175,7 +174,7 @@ static size_t place_readings(const struct followed *followed)
 }
 
 /* Opens the clocks by the first part of a record. */
-static void open_record(struct followed *followed, const struct steered_script *script,
+static void open_record(struct followed *followed, const struct script *script,
 			const char *path)
 {
 	uint32_t bits, mult, shift;
@@ -196,25 +195,24 @@ static void open_record(struct followed *followed, const struct steered_script *
 }
 
 /* Returns whether a later part begins with the clocks as they are now. */
-static bool continues(const struct followed *followed, const struct steered_script *script)
+static bool continues(const struct followed *followed, const struct script *script)
 {
-	uint64_t words[TKC_SAVED_WORDS], now[TKC_NTP_SAVED_WORDS];
+	uint64_t now[TKC_NTP_SAVED_WORDS];
 
-	tkc_clock_save(words, &script->clock);
 	tkc_ntp_save(now, &followed->plan.clocks);
-	return !memcmp(words, now, sizeof(words));
+	return !memcmp(script->words, now, script->word_count * sizeof(*now));
 }
 
 static void follow_part(struct followed *followed, const char *path, bool is_first)
 {
-	struct steered_script script = { .keeps_reads = true };
+	struct script script = { .keeps_reads = true };
 	struct fault fault;
 	size_t length;
-	char *text = steered_text(path, &length);
+	char *text = script_read(path, &length);
 
 	if (!text)
 		fail(STATUS_WRONG, "merge: cannot read '%s': %s", path, strerror(errno));
-	if (!steered_parse(&script, text, length, &fault))
+	if (!script_parse(&script, text, length, &fault))
 		fail_record(path, fault.record, fault.text);
 	if (is_first)
 		open_record(followed, &script, path);

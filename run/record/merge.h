@@ -33,7 +33,7 @@ enum { LINE_ERROR = 1000 };
 struct line {
 	uint64_t common;
 	int64_t ahead; /* ns: REALTIME minus the true time, if `has_ahead` */
-	struct order order; /* as steered.h says */
+	struct order order; /* as script.h says */
 	const struct timex *request;
 	double ppm; /* of LINE_ERROR */
 	uint32_t code, node;

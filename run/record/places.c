@@ -3,8 +3,6 @@
 #define _GNU_SOURCE
 #include "merge.h"
 
-#include "script/record.h"
-
 #include <errno.h>
 #include <stdio.h>
 #include <stdlib.h>
@@ -12,13 +10,9 @@
 
 enum { FIELDS = 5, SHIFT_MOST = 126 };
 
-/* Stores the name of a field. Returns false if it names nothing. */
-static bool parse_name(const struct field *field, char name[NODE_NAME_MOST + 1])
+/* Returns whether a field names the program's clocks, the true time or a node. */
+static bool is_name(const char *name)
 {
-	if (field->length > NODE_NAME_MOST)
-		return false;
-	memcpy(name, field->text, field->length);
-	name[field->length] = 0;
 	return !*name || !strcmp(name, TRUE_NAME) || is_node_name(name);
 }
 
@@ -40,28 +34,53 @@ static struct place *find_place(struct places *places, const char *name)
 	return place;
 }
 
-static bool parse_placed(const struct field *fields, struct placed *placed)
+/* Stores the number of a field. Returns false if it isn't one up to `most`. */
+static bool parse_number(const char *field, uint64_t most, uint64_t *number)
 {
-	return parse_u64(&fields[1], &placed->pace.since) &&
-	       parse_u64(&fields[2], &placed->reading) &&
-	       parse_u64(&fields[3], &placed->pace.scale) && placed->pace.scale &&
-	       parse_u32(&fields[4], &placed->pace.shift) && placed->pace.shift <= SHIFT_MOST;
+	char *end;
+
+	errno = 0;
+	*number = strtoull(field, &end, 10);
+	return *field >= '0' && *field <= '9' && !*end && !errno && *number <= most;
 }
 
-/* Adds a record. Returns a fault, or NULL. */
-static const char *add_record(struct places *places, const struct record *record)
+static bool parse_placed(char *const *fields, struct placed *placed)
 {
-	char name[NODE_NAME_MOST + 1];
+	uint64_t shift = 0;
+	bool is_placed = parse_number(fields[1], UINT64_MAX, &placed->pace.since) &&
+			 parse_number(fields[2], UINT64_MAX, &placed->reading) &&
+			 parse_number(fields[3], UINT64_MAX, &placed->pace.scale) &&
+			 placed->pace.scale && parse_number(fields[4], SHIFT_MOST, &shift);
+
+	placed->pace.shift = (uint32_t)shift;
+	return is_placed;
+}
+
+/* Cuts a line at its commas. Returns the number of its fields, of which it stores the first. */
+static size_t cut(char *line, char *fields[FIELDS])
+{
+	size_t count = 0;
+
+	for (char *field; (field = strsep(&line, ",")); count++)
+		if (count < FIELDS)
+			fields[count] = field;
+	return count;
+}
+
+/* Adds a line. Returns a fault, or NULL. */
+static const char *add_placed(struct places *places, char *line)
+{
 	struct placed placed = { 0 }, *larger;
+	char *fields[FIELDS];
 	struct place *place;
 
-	if (record->count != FIELDS)
+	if (cut(line, fields) != FIELDS)
 		return "wrong number of fields";
-	if (!parse_name(record->fields, name))
+	if (!is_name(fields[0]))
 		return "not a name";
-	if (!parse_placed(record->fields, &placed))
+	if (!parse_placed(fields, &placed))
 		return "not a number in range";
-	place = find_place(places, name);
+	place = find_place(places, fields[0]);
 	if (!place)
 		return "too many nodes";
 	if (place->count ? placed.pace.since < place->paces[place->count - 1].pace.since
@@ -75,23 +94,23 @@ static const char *add_record(struct places *places, const struct record *record
 	return NULL;
 }
 
-/* Adds the records of a file. Returns a fault, or NULL, and the number of the last record. */
-static const char *add_records(struct places *places, FILE *file, size_t *number)
+/* Adds the lines of a file that aren't empty. Returns a fault, or NULL, and the number of the last
+ * of them. */
+static const char *add_places(struct places *places, FILE *file, size_t *number)
 {
-	struct record record = { 0 };
 	const char *wrong = NULL;
-	struct reader reader;
-	char *text = NULL;
+	char *line = NULL;
 	size_t size = 0;
-	ssize_t length;
 
-	while (!wrong && (length = getline(&text, &size, file)) >= 0) {
-		reader = (struct reader){ text, text + length };
-		while (!wrong && read_record(&reader, &record))
-			wrong = add_record(places, &record);
+	*number = 0;
+	while (!wrong && getline(&line, &size, file) >= 0) {
+		line[strcspn(line, "\n")] = 0;
+		if (*line) {
+			++*number;
+			wrong = add_placed(places, line);
+		}
 	}
-	*number = record.number;
-	free(text);
+	free(line);
 	return wrong;
 }
 
@@ -106,7 +125,7 @@ void places_read(struct places *places, const char *record)
 		fail(STATUS_FAILED, "out of memory");
 	file = fopen(path, "re");
 	if (file)
-		wrong = add_records(places, file, &number);
+		wrong = add_places(places, file, &number);
 	if (!file || ferror(file))
 		fail(STATUS_WRONG, "merge: cannot read '%s': %s", path, strerror(errno));
 	if (wrong)

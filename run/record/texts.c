@@ -2,8 +2,6 @@
 /* texts.c - writes records of scripts as text. */
 #include "texts.h"
 
-#include "script/script.h"
-
 #include <inttypes.h>
 
 static const struct {
@@ -20,9 +18,26 @@ static const struct {
 	[TKC_CMD_RESUME] = { "resume", 2 },
 };
 
+static const char *const CLOCKS[] = {
+	[TKC_CLOCK_REALTIME] = "realtime",
+	[TKC_CLOCK_MONOTONIC] = "monotonic",
+	[TKC_CLOCK_BOOTTIME] = "boottime",
+	[TKC_CLOCK_TAI] = "tai",
+	[TKC_CLOCK_REALTIME_COARSE] = "realtime_coarse",
+	[TKC_CLOCK_MONOTONIC_COARSE] = "monotonic_coarse",
+	[TKC_CLOCK_MONOTONIC_RAW] = "monotonic_raw",
+};
+
+const char *text_clock(uint32_t clock)
+{
+	bool is_known = clock < sizeof(CLOCKS) / sizeof(*CLOCKS) && CLOCKS[clock];
+
+	return is_known ? CLOCKS[clock] : "unknown";
+}
+
 int text_read(FILE *file, uint64_t reading, uint32_t clock, const struct tkc_time *value)
 {
-	const char *word = script_clock_word(clock);
+	const char *word = text_clock(clock);
 
 	if (!value)
 		return fprintf(file, "get,%" PRIu64 ",%s", reading, word);

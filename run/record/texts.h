@@ -12,7 +12,8 @@ int text_read(FILE *file, uint64_t reading, uint32_t clock, const struct tkc_tim
 int text_command(FILE *file, uint64_t reading, uint32_t command, int64_t number, uint32_t nsec);
 int text_request(FILE *file, uint64_t reading, const struct asked_words *asked);
 
-/* Returns the word of tkcore for a refusal. */
+/* Return the words of tkcore for a clock and for a refusal. */
+const char *text_clock(uint32_t clock);
 const char *text_refusal(uint32_t code);
 
 #endif

@@ -1,60 +1,41 @@
 /* SPDX-License-Identifier: MIT OR Apache-2.0 */
-/*
- * script.h - parses the scripts of tkcore. A script starts with an opening; each row after it is a
- * command or a read of a clock. docs/TKCORE.md describes the format. The records `counter` and
- * `adjtimex` are faults here, and so is an opening with HZ or with the numbers of a discipline. A
- * program that parses these itself passes the other records to script_open and script_row.
- */
+/* script.h - reads scripts of tkcore, whose records the library parses. docs/TKCORE.md describes
+ * them. A script with a quote or a change of counter is refused. */
 #ifndef SCRIPT_H
 #define SCRIPT_H
 
-#include "record.h"
+#include "clocks/machine.h"
 
-#include <tkcore.h>
+#include <tkcore_session.h>
 
 /* The greatest size of a script, in bytes. */
 enum { SCRIPT_LIMIT = 16777216 };
 
-/* A command at a reading, or a read of a clock. */
-struct row {
-	bool is_read;
-	uint64_t reading;
-	uint32_t command; /* an argument of tkc_clock_apply, as number and nsec are */
-	int64_t number;
-	uint32_t nsec;
-	uint32_t clock; /* an argument of tkc_snapshot_get */
-	bool has_value; /* whether a read states the value that it expects */
-	uint64_t value; /* this value, in ns */
-};
-
-/* The clocks as the first record opens them, and the rows after it. */
+/* The commands and the requests of a script, and its reads unless they are left out. The order of
+ * a request has the command ROW_REQUEST and the request's number in the list. That of a read has
+ * ROW_READ plus the clock, and the value that the read states. */
 struct script {
-	struct tkc_counter counter;
-	struct tkc_clock clock;
-	struct row *rows;
+	bool keeps_reads;
+	/* The clocks as the first record opens them, as tkc_session_save stores them. There are
+	 * TKC_NTP_SAVED_WORDS if a discipline steers the clocks, and else TKC_SAVED_WORDS. */
+	uint64_t words[TKC_NTP_SAVED_WORDS];
+	uint32_t word_count;
+	struct order *orders;
 	size_t count;
+	struct timex *requests;
+	size_t request_count;
 };
 
 /* Why a script is refused. Record 0 means the script as a whole. */
 struct fault {
 	size_t record;
-	const char *text;
+	char text[TKC_TEXT_ROOM];
 };
 
-/*
- * Parses a script. It overwrites the text, because it removes quotes in place.
- * On the first fault it returns false, and the script then holds no memory.
- */
-bool script_parse(struct script *script, char *text, size_t length,
-		  struct fault *fault);
-void script_free(struct script *script);
+/* Returns the bytes of a file, at most one more than a script may have, or NULL with errno. */
+char *script_read(const char *path, size_t *length);
 
-/* Open the clocks with the first record, and parse a later one. They return a fault,
- * or NULL. */
-const char *script_open(struct script *script, const struct record *record);
-const char *script_row(const struct record *record, struct row *row);
-
-/* Returns the word with which a script names a clock. */
-const char *script_clock_word(uint32_t clock);
+/* Parses a script. `script` is zero, except for keeps_reads. Returns false at the first fault. */
+bool script_parse(struct script *script, const char *text, size_t length, struct fault *fault);
 
 #endif

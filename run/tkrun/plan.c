@@ -5,7 +5,7 @@
 
 #include "clocks/rows.h"
 #include "clocks/saved_words.h"
-#include "script/steered.h"
+#include "script/script.h"
 
 #include <errno.h>
 #include <math.h>
@@ -35,13 +35,12 @@ void plan_open_clock(const struct plan *plan, struct tkc_clock *clock)
 		abort();
 }
 
-/* Stores how clocks were opened. Returns false if they aren't as just opened. */
-static bool find_opening(struct plan *plan, const struct tkc_clock *clock)
+/* Stores how saved clocks were opened. Returns false if they aren't as just opened. */
+static bool find_opening(struct plan *plan, const uint64_t *words)
 {
-	uint64_t words[TKC_SAVED_WORDS], opened[TKC_SAVED_WORDS], real;
-	struct tkc_clock other;
+	uint64_t opened[TKC_SAVED_WORDS], real;
+	struct tkc_clock clock;
 
-	tkc_clock_save(words, clock);
 	plan->first = words[SAVED_LAST];
 	plan->uptime_sec = (int64_t)words[SAVED_SECOND];
 	plan->uptime_nsec = (uint32_t)(words[SAVED_PART] >> words[SAVED_SHIFT]);
@@ -49,10 +48,10 @@ static bool find_opening(struct plan *plan, const struct tkc_clock *clock)
 	       plan->uptime_nsec;
 	plan->open_sec = (int64_t)(real / NANOS);
 	plan->open_nsec = (uint32_t)(real % NANOS);
-	if (!open_clock(plan, &other))
+	if (!open_clock(plan, &clock))
 		return false;
-	tkc_clock_save(opened, &other);
-	return !memcmp(words, opened, sizeof(words));
+	tkc_clock_save(opened, &clock);
+	return !memcmp(words, opened, sizeof(opened));
 }
 
 __attribute__((noreturn)) static void fail_script(const struct fault *fault)
@@ -73,37 +72,39 @@ static bool open_steered(struct plan *plan)
 }
 
 /* Returns whether the clocks have the discipline of a script's first record. */
-static bool has_discipline(const struct plan *plan,
-			   const struct steered_script *script)
+static bool has_discipline(const struct plan *plan, const struct script *script)
 {
 	uint64_t words[TKC_NTP_SAVED_WORDS];
 
 	tkc_ntp_save(words, &plan->clocks);
-	return !script->has_numbers ||
-	       !memcmp(words + TKC_SAVED_WORDS, script->numbers,
-		       sizeof(script->numbers));
+	return !memcmp(words + TKC_SAVED_WORDS, script->words + TKC_SAVED_WORDS,
+		       (script->word_count - TKC_SAVED_WORDS) * sizeof(*words));
 }
 
-bool plan_open_script(struct plan *plan, const struct steered_script *script)
+bool plan_open_script(struct plan *plan, const struct script *script)
 {
-	plan->counter = script->counter;
+	const uint64_t *words = script->words;
+
+	if (tkc_counter_new(&plan->counter, (uint32_t)words[SAVED_BITS],
+			    (uint32_t)words[SAVED_MULT], (uint32_t)words[SAVED_SHIFT]))
+		return false; /* unreachable: the script's clocks have this counter */
 	plan->hz = rate_of(&plan->counter);
-	plan->is_steered = script->hz;
-	plan->ticks = script->hz ? script->hz : TICKS_HZ;
-	return find_opening(plan, &script->clock) && open_steered(plan) &&
+	plan->is_steered = script->word_count == TKC_NTP_SAVED_WORDS;
+	plan->ticks = plan->is_steered ? (uint32_t)words[SAVED_HZ] : TICKS_HZ;
+	return find_opening(plan, words) && open_steered(plan) &&
 	       has_discipline(plan, script);
 }
 
 static void read_script(struct plan *plan, const char *path)
 {
-	struct steered_script script = { 0 };
+	struct script script = { 0 };
 	struct fault fault;
 	size_t length;
-	char *text = steered_text(path, &length);
+	char *text = script_read(path, &length);
 
 	if (!text)
 		fail(STATUS_WRONG, "--script: cannot read '%s': %s", path, strerror(errno));
-	if (!steered_parse(&script, text, length, &fault))
+	if (!script_parse(&script, text, length, &fault))
 		fail_script(&fault);
 	if (!plan_open_script(plan, &script))
 		fail(STATUS_WRONG,

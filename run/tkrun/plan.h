@@ -5,7 +5,7 @@
 
 #include "options.h"
 
-struct steered_script;
+struct script;
 
 /* The parts of a second into which the discipline divides phases, unless a script
  * says it: those of Debian's kernels. */
@@ -21,7 +21,7 @@ struct plan {
 	uint32_t open_nsec, uptime_nsec;
 	uint32_t ticks;	 /* the parts of a second */
 	bool is_steered; /* a script opens clocks that are steered */
-	struct order *orders; /* steered.h says how one is a request */
+	struct order *orders; /* script.h says how one is a request */
 	struct timex *requests;
 	size_t count, next;
 };
@@ -33,7 +33,7 @@ void plan_make(struct plan *plan, const struct options *options, double hz,
 	       const struct plan *first);
 
 /* Opens the clocks of a script, which have accepted no command. Returns false if they have. */
-bool plan_open_script(struct plan *plan, const struct steered_script *script);
+bool plan_open_script(struct plan *plan, const struct script *script);
 
 /* Makes the opened clocks without their discipline, for a record. */
 void plan_open_clock(const struct plan *plan, struct tkc_clock *clock);

@@ -1,8 +1,11 @@
 #!/usr/bin/env python3
-"""Runs random scripts through examples/c/report.c and through the definitions in Python, and stops
-at the first report or fault that differs.
+"""Runs random scripts through a program that makes reports over the library for C and through the
+definitions in Python, and stops at the first report or fault that differs.
 
-    tests/c/compare_report.py PROGRAM [SCRIPTS [SEED]]
+    tests/c/compare_report.py calls|session PROGRAM [SCRIPTS [SEED]]
+
+`calls` is calls_report.c, which takes commands and reads. `session` is examples/c/report.c, which
+takes all scripts without quotes.
 """
 import random
 import subprocess
@@ -16,12 +19,23 @@ import compare
 import model
 
 
+def any_script(rng):
+    """A script without quotes and byte order marks, with line ends of any kind."""
+    ending, quote = rng.choice(["\n", "\n", "\n\n", "\r\n", "\r"]), True
+    while quote:
+        lines = compare.steered_records(rng) if rng.random() < 0.4 else compare.records(rng, True)
+        text = ending.join(",".join(map(str, line)) for line in lines)
+        quote = '"' in text
+    return (text + rng.choice(["", ending])).encode()
+
+
 def wanted(text):
     """Returns the status, the report and the fault that the definitions give for a script."""
     try:
-        return 0, "".join(line + "\n" for line in model.report(text)), ""
+        lines = model.report(text)
     except model.Fault as fault:
         return 1, "", f"tkcore: script: {fault}\n"
+    return 3 if model.has_difference(lines) else 0, "".join(line + "\n" for line in lines), ""
 
 
 def written(program, text):
@@ -31,11 +45,12 @@ def written(program, text):
 
 
 def main():
-    program, count = sys.argv[1], int(sys.argv[2]) if len(sys.argv) > 2 else 1_000
-    seed = int(sys.argv[3]) if len(sys.argv) > 3 else 1
+    kind, program = sys.argv[1:3]
+    count = int(sys.argv[3]) if len(sys.argv) > 3 else 1_000
+    seed = int(sys.argv[4]) if len(sys.argv) > 4 else 1
     rng = random.Random(seed)
     for number in range(count):
-        text = compare.unquoted_script(rng, True)
+        text = compare.unquoted_script(rng, True) if kind == "calls" else any_script(rng)
         if written(program, text) != wanted(text):
             print(f"script {number} of seed {seed} differs:\n{text.decode()}")
             print(f"program: {written(program, text)}\nmodel: {wanted(text)}")

@@ -142,6 +142,15 @@ class Merge(RunTest):
         self.assertEqual(logs[0], logs[1])
         self.assertTrue([line for line in logs[0] if line[4].startswith("adjtimex,")])
         self.assertTrue([line for line in logs[0] if line[3] == "invalid"])
+        # a part with another status of the discipline
+        part = self.folder / "r.b.2"
+        first, rest = part.read_text().split("\n", 1)
+        fields = first.split(",")
+        fields[17] = str(int(fields[17]) ^ 1)
+        part.write_text("\n".join([",".join(fields), rest]))
+        run = call([TKRUN, "merge", self.record])
+        self.assertEqual((run.returncode, run.stderr), (2, (
+            f"tkrun: merge: '{part}': record 1: it doesn't continue the part before\n")))
 
     def test_readings_that_wrap(self):
         # a narrow counter of another rate, which wraps every 17 s and begins at its end

@@ -50,7 +50,8 @@ class Faults(RunTest):
                 "a b,1,1,1,0": "not a name", f"{'a' * 32},1,1,1,0": "not a name",
                 "nodes,1,1,1,0": "not a name", "a,-1,1,1,0": number, "a,1,x,1,0": number,
                 "a,1,1,0,0": number, "a,1,1,18446744073709551616,0": number,
-                "a,1,1,1,127": number, "b,1,1,1,0": "the common counter isn't at 0 first, or goes "
+                "a,1,1,1,127": number, "a,1,1,1,0 ": number, "a,+1,1,1,0": number,
+                "a, 1,1,1,0": number, "a,1,1,1,": number, "b,1,1,1,0": "the common counter isn't at 0 first, or goes "
                                                     "back"}.items():
             with self.subTest(line=line):
                 nodes.write_text(f"{whole}{line}\n")
@@ -79,8 +80,12 @@ class Faults(RunTest):
                 ("", ": no record"), ("x\n", " record 1: not a valid opening"),
                 (f"{opening}\nx,1\n", " record 2: unknown word"),
                 (f"{opening}\nget,1\n", " record 2: wrong number of fields"),
-                (f"{opening}\nadjtimex,1\n",
+                (f"{opening}\nadjtimex,1{',0' * 10}\n",
                  " record 2: adjtimex, but HZ isn't in the first record"),
+                (f"{opening}\ncounter,1,64,16777216,24,0\n",
+                 " record 2: tkrun can't change the counter"),
+                (f'{opening}\nupdate,"1"\n',
+                 " record 2: not a plain line: it has a quote or a byte order mark"),
                 (opening.replace("openwords,", "openwords,1,"),
                  " record 1: wrong number of fields"),
                 ("openwords,32,16777216,24,1,0,16777216,0,0,5000000000,0,0,0,0,0,10000\n",

@@ -1,5 +1,7 @@
 """Scripts whose clocks are steered. The leap second is that of 2016; its times are by adjtimex(2)."""
-from runs import STILL, RunTest, program
+import resource
+
+from runs import STILL, TKRUN, RunTest, call, program
 
 INS, STATUS, TAI = 0x10, 0x10, 0x80  # STA_INS, ADJ_STATUS and ADJ_TAI of adjtimex(2)
 OPENING = "openhz,64,1000000000,1,0,1483228700,0"
@@ -60,7 +62,10 @@ class Scripts(RunTest):
 
     def refuse(self, *lines):
         """Returns why tkrun refuses a script of these records."""
-        run = self.start("--script", self.file("s", "\n".join(lines)), "--", "true")
+        return self.refuse_text("\n".join(lines))
+
+    def refuse_text(self, text):
+        run = self.start("--script", self.file("s", text), "--", "true")
         self.assertEqual((run.returncode, run.stdout), (2, ""))
         self.assertRegex(run.stderr, "^tkrun: --script: .*\n$")
         return run.stderr.removeprefix("tkrun: --script: ").rstrip()
@@ -80,7 +85,63 @@ class Scripts(RunTest):
                 fields = LEAP[0].split(",")
                 fields[place] = number
                 self.assertEqual(self.refuse(steered, ",".join(fields)), second)
-        self.assertEqual(self.refuse(steered, "counter,0,64,1,0,0"), "record 2: unknown word")
+
+    def test_faults_of_records(self):
+        opening, counter = "record 1: not a valid opening", "counter,0,64,16777216,24,0"
+        fields, number, word = "wrong number of fields", "not a number in range", "unknown word"
+        for text, fault in {
+                "": "no record", "\n\r\n": "no record", "opened": opening, "update,0": opening,
+                OPENING.replace("64", "7", 1): opening, f"{OPENING},,": f"record 1: {fields}",
+                OPENING.replace("64", "+64", 1): f"record 1: {number}"}.items():
+            with self.subTest(text):
+                self.assertEqual(self.refuse_text(text), fault)
+        for line, fault in {
+                "sets,0": word, "Update,0": word, "update ,0": word, "get,0,utc": word, ",": word,
+                "update,0\0": number, "update\0,0": word, "\xff": word, OPENING: word,
+                "update": fields, "update,0,": fields, "step,0,1": fields, "get,0": fields,
+                "get,0,tai,1,1": fields, "update,": number, "update,-1": number,
+                "update, 1": number, "update,1 ": number, "step,0,--1,0": number,
+                "step,0,1,-1": number, "get,0,tai,-1": number, "get,0,tai,": number,
+                counter: "tkrun can't change the counter", f"{counter},0": fields,
+                counter.replace(",0", ",x", 1): number,
+                counter.replace("64", "7"): "a reading does not have 8 to 64 bits",
+                counter.replace("64", "65"): "a reading does not have 8 to 64 bits",
+                counter.replace("24", "33"): "the shift is above 32",
+                counter.replace("16777216", "255"): "the mult is below 256",
+                counter.replace("16777216", "3869339907"):
+                    "the mult and 11 percent of it do not fit 32 bits"}.items():
+            with self.subTest(line):
+                # the fault of the first record that has one, and empty lines aren't counted
+                self.assertEqual(self.refuse(OPENING, "", "get,0,tai", "", line, "wrong"),
+                                 f"record 3: {fault}")
+
+    def test_ends_of_lines(self):
+        lines = [OPENING, "step,0,86400,0", "step,0,0,500000000"]
+        for text in ["\n".join(lines), "\r\n".join([*lines, ""]), "\r".join(lines),
+                     "\n\r\r" + "\n\n".join([*lines, ""])]:
+            output = self.run_on(*STILL, "--script", self.file("s", text), "--", "date", "+%s.%N")
+            self.assertEqual(output, "1483315100.500000000\n")
+
+    def test_quotes_and_marks(self):
+        fault = "not a plain line: it has a quote or a byte order mark"
+        self.assertEqual(self.refuse("\ufeff" + OPENING), f"record 1: {fault}")
+        self.assertEqual(self.refuse(OPENING.replace("64", '"64"')), f"record 1: {fault}")
+        self.assertEqual(self.refuse(OPENING, "update,0", 'get,0,"tai"'), f"record 3: {fault}")
+        self.assertEqual(self.refuse(OPENING, "\ufeffupdate,0"), "record 2: unknown word")
+
+    def test_large_scripts(self):
+        most = 16777216
+        large = "larger than 16777216 bytes"
+        self.assertEqual(self.refuse_text(OPENING.ljust(most + 1, "\n")), large)
+        self.assertEqual(self.refuse_text("x" * (most + 1)), large)
+        script = self.file("s", OPENING + "\n".ljust(most - len(OPENING), "\n"))
+        self.assertEqual(self.run_on(*STILL, "--script", script, "--", "date", "+%s"),
+                         "1483228700\n")
+        # the list of the orders needs more memory than the rest
+        script.write_text(OPENING.ljust(most - 1, "\n").replace("\n" * 9, "\nupdate,0"))
+        limits = lambda: resource.setrlimit(resource.RLIMIT_AS, (48 << 20, 48 << 20))
+        run = call([TKRUN, "--script", script, "--", "true"], preexec_fn=limits)
+        self.assertEqual((run.returncode, run.stderr), (2, "tkrun: --script: out of memory\n"))
 
     def test_the_greatest_numbers(self):
         # each is the greatest or least of its kind, and the set is refused as it would be by tkcore
@@ -110,8 +171,10 @@ class Scripts(RunTest):
         for place in range(17, 34):
             fields = [*opening]
             fields[place] = str(int(fields[place]) + 1)
-            self.assertIn(self.refuse(",".join(fields)), [
-                "record 1: tkrun can't continue running clocks"])
+            # a second of a leap that isn't due, and errors above their limit, are no clocks'
+            fault = ("not a valid opening" if place in (20, 23, 24)
+                     else "tkrun can't continue running clocks")
+            self.assertEqual(self.refuse(",".join(fields)), f"record 1: {fault}")
         opening[16] = str(int(opening[16]) + 2**32)  # HZ has 32 bits
         self.assertEqual(self.refuse(",".join(opening)), "record 1: not a number in range")
 

@@ -33,8 +33,8 @@ def text(name="tkcore.h"):
 class Make(Case):
     def setUp(self):
         super().setUp()
-        self.top = self.copy("Makefile", "include", "examples/c", "run/script", "docs/tkcore.3",
-                             "docs/C.md", "LICENSE-APACHE", "LICENSE-MIT")
+        self.top = self.copy("Makefile", "include", "examples/c", "docs/tkcore.3", "docs/C.md",
+                             "LICENSE-APACHE", "LICENSE-MIT")
         self.text = self.top / "release/x86_64/tkcore.s"
         self.text.parent.mkdir(parents=True)
         self.text.write_text(text(), encoding="utf-8")

@@ -7,9 +7,8 @@
 #include <stddef.h>
 #include <stdint.h>
 
-/* The most fields that a record of a script has: those of `openwords`, with its word
- * and the numbers of a discipline. */
-enum { FIELDS_MOST = 34 };
+/* The most fields that a record of a script has: those of `openwords`, with its word. */
+enum { FIELDS_MOST = 16 };
 
 /* The part of a text that isn't read yet. */
 struct reader {
