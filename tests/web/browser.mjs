@@ -13,6 +13,7 @@ import { Browser } from './tab.mjs';
 const DATA = fileURLToPath(new URL('../../crates/tk_examples/data/', import.meta.url));
 const SETTLED = 'document.getElementById("verdict").textContent.trim() !== "running"';
 const ROWS = `[...document.querySelectorAll('#rows div')].map(it => it.textContent)`;
+const TOPS = `[...document.querySelectorAll('#rows div')].map(it => parseInt(it.style.top) / 18)`;
 const VERDICT = `document.getElementById('verdict').textContent.trim()`;
 
 function require(is, what) {
@@ -35,23 +36,16 @@ function rowsOf(report) {
 /** Each row is beside its record: a record is a line that isn't empty. */
 async function checkPlaces(browser, name, text) {
     const lines = text.split('\n').flatMap((line, i) => line ? [i] : []);
-    const tops = await browser.value(
-        `[...document.querySelectorAll('#rows div')].map(it => parseInt(it.style.top) / 18)`);
+    const tops = await browser.value(TOPS);
     require(JSON.stringify(tops) === JSON.stringify(lines), `${name}: rows at ${tops}`);
-}
-
-/** The page takes no quotes. */
-function checkQuotes(rows, text) {
-    const record = text.split('\n').filter(Boolean).findIndex(line => line.includes('"')) + 1;
-    require(JSON.stringify(rows) === `["script: record ${record}: not a plain line"]`, `quotes: ${rows}`);
 }
 
 async function checkExample(browser, name) {
     const text = fs.readFileSync(`${DATA}${name}.csv`, 'utf8');
     await runScript(browser, text);
     const report = `${DATA}${name}.report`, rows = await browser.value(ROWS);
-    if (text.includes('"')) {
-        checkQuotes(rows, text);
+    if (text.includes('"')) { // in its first record
+        require(rows.join() === 'script: record 1: not a plain line', `${name}: ${rows}`);
         return;
     }
     if (!fs.existsSync(report)) {
@@ -65,6 +59,18 @@ async function checkExample(browser, name) {
     const svg = await browser.value(`document.getElementById('plot').innerHTML`);
     const paths = svg.match(/<path d="M[^"]*"/g) ?? [];
     require(paths.length >= 2 && !svg.includes('NaN'), `${name}: ${paths.length} panels`);
+}
+
+/** The verdict counts records and reads, and a fault is beside its record. */
+async function checkVerdict(browser) {
+    await runScript(browser, 'open,32,16777216,24,0,1700000000,0\nupdate,5\nupdate,4\n'
+        + 'get,9,monotonic,8\nget,9,monotonic,9\nget,4294967296,tai,1\n');
+    require(await browser.value(VERDICT) === '2 reads differ 6 records, 2 refused',
+        await browser.value(VERDICT));
+    await runScript(browser, 'open,8,256,0,0,0,0\n\nget,1,"tai"\n');
+    require((await browser.value(ROWS)).join() === 'script: record 2: not a plain line',
+        await browser.value(ROWS));
+    require((await browser.value(TOPS)).join() === '2', 'a fault is beside another record');
 }
 
 /** The cursor after the last record reads the clocks as `get` does there. */
@@ -205,6 +211,7 @@ async function check(browser, page) {
         ext === '.report' || ext === '.fault' && !fs.existsSync(`${DATA}${name}.stamps`));
     for (const { name } of names)
         await checkExample(browser, name);
+    await checkVerdict(browser);
     await checkCursor(browser);
     await checkReads(browser);
     await checkReaders(browser);
