@@ -1,4 +1,4 @@
-"""Scripts for the page: edges, each fault of docs/TKCORE.md, and large ones."""
+"""Scripts for the page: edges, each fault of docs/TKCORE.md, and full journals."""
 
 MARK = b"\xef\xbb\xbf"  # of the order of bytes
 OPEN = b"open,32,16777216,24,0,1700000000,0\n"
@@ -80,14 +80,12 @@ def faulty():
     yield MARK, "no record"
     yield MARK + MARK + OPEN, "record 1: not a plain line"
     yield OPEN + b'get,1,"tai"\n', "record 2: not a plain line"
+    yield (OPEN + b"update,").ljust(16_777_215, b"0") + b"x", "record 2: not a number in range"
     yield b"\n" * 16_777_217, "larger than 16777216 bytes"
 
 
-def larger():
-    """Yields a script of the most bytes in two records, and scripts that fill the journal of plain clocks
-    and of steered ones, with their reports."""
-    start = OPEN + b"update,"
-    yield start + b"7".rjust(16_777_216 - len(start), b"0"), ["open,32,16777216,24", "ok,1,0.000000007"]
+def full():
+    """Yields scripts that fill a journal, with their reports: of plain clocks and of steered ones."""
     most = 1_048_576
     accepted = [f"ok,{number},0.000000001" for number in range(1, most + 1)]
     yield OPEN + b"update,1\n" * (most + 2) + b"counter,1,8,256,0,0\nupdate,1\n", [

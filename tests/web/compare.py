@@ -26,7 +26,7 @@ sys.path.insert(0, str(TOP / "tests" / "model"))
 import compare
 import model
 import readers
-from cases import EDGES, MARK, faulty, larger
+from cases import EDGES, MARK, faulty, full
 
 DATA = TOP / "crates" / "tk_examples" / "data"
 SECONDS = 1800  # the longest that node may take for all scripts, on a busy machine
@@ -66,9 +66,12 @@ def wanted_of(given, script):
 
 
 def page_of(given, script, wanted=None):
-    """Returns the page's answer to a script, for which tkcore has this one: the page takes no quotes."""
+    """Returns the page's answer to a script, for which tkcore has this one: a session takes no quotes,
+    and no first record with a byte of a mark."""
     records = [it for it in re.split(rb"[\r\n]+", script.removeprefix(MARK)) if it]
     plain = list(itertools.takewhile(lambda it: b'"' not in it, records))
+    if records and records[0][:1] == MARK[:1]:
+        plain = []
     if len(plain) == len(records):
         return wanted or wanted_of(given, script)
     before = wanted_of(given, b"\n".join(plain)) if plain else (0, "", "")
@@ -211,8 +214,8 @@ def main():
         if fault:
             pairs.append((script, (1, "", f"tkcore: script: {fault}\n")))
     stated = len(pairs) - count
-    large = list(larger())[:3 if given.long else 2]
-    pairs += [(script, (0, "".join(f"{line}\n" for line in lines), "")) for script, lines in large]
+    journals = list(full())[:2 if given.long else 1]
+    pairs += [(script, (0, "".join(f"{line}\n" for line in lines), "")) for script, lines in journals]
     scripts = [*EDGES, *(script for script, fault in faulty() if not fault)]
     scripts += [compare.script(rng) for _ in range(given.scripts)]
     scripts += [script.replace(b'"', b"") for script in scripts if b'"' in script]
@@ -229,7 +232,7 @@ def main():
             *(wrong_cursor(given, cursor) for cursor in cursors),
             *(wrong_reads(given, *it) for it in plain)]), None):
         sys.exit(wrong)
-    print(f"{count} examples, {stated} faults, {len(large)} large scripts and {len(scripts)} scripts of "
+    print(f"{count} examples, {stated} faults, {len(journals)} full journal(s) and {len(scripts)} scripts of "
           f"seed {given.seed}: each report, and "
           f"what {len(cursors)} cursors show, is {'the program' if given.program else 'the model'}'s, "
           f"as what the page says of the reads of {len(plain)} scripts, "
