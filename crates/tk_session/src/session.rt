@@ -6,6 +6,8 @@ ghost use Rattle.tk_ntp.specs.SteeredClock.{steered_opened, steered_refusal};
 ghost use Rattle.tk_script.specs.Start.{IsOpenable};
 ghost use Rattle.tk_session.specs.Session as spec;
 
+mod closed;
+
 use crate::fault::Fault;
 use crate::text::Text;
 use crate::{plain, steered};
