@@ -31,8 +31,11 @@ PLACELESS = OPEN + b"".join(
     b"suspend,%d\nresume,%d,%d,0\nset,%d,5,0\n" % (reading, reading, sec, reading)
     for reading, sec in enumerate([940_000_000] * 9 + [763_372_035])) + b"".join(
     b"get,2000000000,realtime,1800000000000000000\nget,%d,realtime\n" % reading for reading in range(60))
+# a counter with another reading
+CHANGED = OPEN + b"update,5\ncounter,2000000000,64,8388608,20,77\nupdate,1000\nget,3000,tai\n"
 EDGES = [
     *[READS] * 4,  # (each fourth script is drawn)
+    *[CHANGED] * 4,
     *[MANY] * 4,
     *[PLACELESS] * 4,
     *[OVERDUE] * 4,

@@ -57,6 +57,15 @@ function cursorsOf(curves, clocks, records) {
         cursorAt(curves, records, first, BigInt(Math.floor(end * part))));
 }
 
+/** Throws if the ideal line jumps at a change: it goes on but for rounding to ns. */
+function checkPlaces(changes) {
+    for (const { here, there, row } of changes) {
+        const [from, to] = [here?.place ?? there.place, there.place];
+        if (from !== null && to !== null && ![-1n, 0n, 1n].includes(to - from))
+            throw new Error(`record ${row} moves the ideal line from ${from} ns to ${to} ns`);
+    }
+}
+
 /** Returns the script's lines, and what the page says of its reads and shows at its cursor. */
 function drawnOf(script, bytes, readers) {
     const library = new Library(modules.library), curves = new Curves(library);
@@ -64,6 +73,7 @@ function drawnOf(script, bytes, readers) {
     if (readers !== undefined)
         curves.readers = new Readers(readers.toString());
     const lines = script.run(clocks);
+    checkPlaces(curves.changes);
     const records = script.records.map(({ start, end }) => bytes.toString('latin1', start, end));
     return { lines, drawn: { reads: curves.readLines(), cursors: cursorsOf(curves, clocks, records) } };
 }
