@@ -13,7 +13,9 @@ import { Browser } from './tab.mjs';
 const DATA = fileURLToPath(new URL('../../crates/tk_examples/data/', import.meta.url));
 const SETTLED = 'document.getElementById("verdict").textContent.trim() !== "running"';
 const ROWS = `[...document.querySelectorAll('#rows div')].map(it => it.textContent)`;
-const TOPS = `[...document.querySelectorAll('#rows div')].map(it => parseInt(it.style.top) / 18)`;
+const TOPS = `{ const { top } = document.getElementById('script').getBoundingClientRect();
+    [...document.querySelectorAll('#rows div')]
+        .map(it => (it.getBoundingClientRect().top - top - 6) / 18) }`; // (the padding is 6 px)
 const VERDICT = `document.getElementById('verdict').textContent.trim()`;
 
 function require(is, what) {
