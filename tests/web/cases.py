@@ -33,7 +33,11 @@ PLACELESS = OPEN + b"".join(
     b"get,2000000000,realtime,1800000000000000000\nget,%d,realtime\n" % reading for reading in range(60))
 # a counter with another reading
 CHANGED = OPEN + b"update,5\ncounter,2000000000,64,8388608,20,77\nupdate,1000\nget,3000,tai\n"
+# an offset gives each second one command, and a second begins before each read
+SLEWED = STEERED + b"adjtimex,0,8209,1000000,0,0,0,1,0,0,0,0\n" + b"".join(
+    b"get,%d,realtime\n" % (10**9 * half // 2) for half in range(3, 17, 2))
 EDGES = [
+    *[SLEWED] * 4,
     *[READS] * 4,  # (each fourth script is drawn)
     *[CHANGED] * 4,
     *[MANY] * 4,
