@@ -1,95 +1,119 @@
 /* SPDX-License-Identifier: MIT OR Apache-2.0 */
-/* clocks.js - the clocks of a script, and the commands that its records give them. */
-import { BYTES, COMMANDS, FULL, INVALID } from './library.js';
+/*
+ * clocks.js - the clocks of a session in the library, record by record, to draw them.
+ *
+ * Several seconds of steered clocks may begin in one record, each with its rate. The session has
+ * one snapshot after them, so the library lets them begin again, one by one.
+ */
+import { BYTES } from './library.js';
 
-/** The most commands that tkcore's journal lists (listed_most in docs/CLOCKS.md). */
-export const LISTED_MOST = 1048576;
+/** Places in the words of tkc_ntp_save: the coming second, and the mark. */
+const NEXT = 31, MARK = 32;
+const FRONT_END = 1n << 63n;
 
-/** Clocks that no discipline steers. A watcher is called with the snapshots around each change. */
+/** Calls a watcher with the snapshots around each change, and with reads and refusals. */
 export class Clocks {
-    constructor(library, counter, watcher) {
+    constructor(library, session, watcher) {
         this.library = library;
         this.calls = library.calls;
-        this.counter = counter;
+        this.session = session;
         this.watcher = watcher;
-        this.clock = library.reserve(BYTES.clock);
-        this.other = library.reserve(BYTES.counter);
+        this.counter = library.reserve(BYTES.counter);
         this.snapshot = library.reserve(BYTES.snapshot);
         this.before = library.reserve(BYTES.snapshot);
-        this.listed = 0; // the commands in tkcore's journal
+        this.after = library.reserve(BYTES.snapshot); // a record
+        this.begun = library.reserve(BYTES.snapshot); // a second
+        this.ntp = library.reserve(BYTES.ntp); // the clocks, if they are steered
+        this.trial = library.reserve(BYTES.ntp);
     }
 
-    /** Opens the clocks. Returns a code, as all calls below do. */
-    open([, , , reading, sec, nsec]) {
-        return this.opened(this.calls.tkc_clock_open(this.clock, this.counter, reading, sec,
-            Number(nsec)));
+    /** Shows the clocks after the first record. */
+    open() {
+        this.library.bytes(this.snapshot, BYTES.snapshot).set(this.session.snapshotBytes());
+        this.calls.tkc_snapshot_counter(this.counter, this.snapshot);
+        this.load();
+        this.watcher.opened(this.snapshot);
     }
 
-    /** Continues running clocks, whose words the library stored, at a frequency and a tick. */
-    resume(frequency, tick) {
-        return this.opened(this.calls.tkc_clock_from_words(this.clock, this.counter,
-            this.library.words, frequency, tick));
+    /** Shows what the session has done at a later record. Its lines are these. */
+    follow({ number, word, reading, first, clock, value }, lines) {
+        this.watcher.atRecord(number);
+        this.library.bytes(this.after, BYTES.snapshot).set(this.session.snapshotBytes());
+        this.begin(reading, this.library.frontOf(this.after));
+        if (word === 'get')
+            this.watcher.read(clock, this.after, reading,
+                this.library.nanos(this.after, clock, reading), value);
+        else if (lines.startsWith('no,'))
+            this.watcher.refused(word, this.after, reading);
+        else
+            this.take(word, this.after, reading, first);
+        this.load();
     }
 
-    opened(code) {
-        if (!code) {
-            this.store(this.snapshot);
-            this.watcher?.opened(this.snapshot);
-        }
-        return code;
-    }
-
-    store(out) {
-        this.calls.tkc_clock_snapshot(out, this.clock);
-    }
-
-    /** Takes a new snapshot after a command at a reading, which is `first` for a new counter. */
-    take(word, reading, first = reading) {
+    /** Takes a snapshot from after a command at a reading, which is `first` for a new counter. */
+    take(word, snapshot, reading, first = reading) {
         [this.before, this.snapshot] = [this.snapshot, this.before];
-        this.store(this.snapshot);
-        this.watcher?.changed(word, this.before, reading, this.snapshot, first);
+        this.library.copy(this.snapshot, snapshot, BYTES.snapshot);
+        this.watcher.changed(word, this.before, reading, this.snapshot, first);
     }
 
-    /** The number of commands that were accepted, also before an `openwords`. */
-    number() {
-        return this.calls.tkc_snapshot_front(this.snapshot);
+    /** Loads the clocks of the session, if they are steered. */
+    load() {
+        const words = this.session.steeredWords();
+        this.isSteered = words !== null;
+        if (!this.isSteered)
+            return;
+        this.library.bytes(this.library.words, BYTES.words).set(words);
+        if (this.calls.tkc_ntp_load(this.ntp, this.library.words))
+            throw new Error('the words of steered clocks are refused');
     }
 
-    /** Does what a read at a reading does before it reads: nothing. */
-    look() {}
-
-    /** Returns how many seconds a discipline lets begin up to a reading. */
-    secondsUntil() {
-        return 0n;
+    /** Returns one of the words of the steered clocks. */
+    word(place) {
+        this.calls.tkc_ntp_save(this.library.words, this.ntp);
+        return this.library.word(this.library.words, place);
     }
 
-    /** Carries out a record that is no read. */
-    carryOut(word, values) {
-        if (word === 'adjtimex')
-            return INVALID;
-        if (word === 'counter')
-            return this.change(values);
-        if (this.listed >= LISTED_MOST)
-            return FULL;
-        const [reading, number = 0n, nsec = 0n] = values;
-        const code = this.calls.tkc_clock_apply(this.clock, reading, COMMANDS.get(word), number,
-            Number(nsec));
-        if (!code) {
-            this.listed++;
-            this.take(word, reading);
+    /** Lets the seconds up to a reading begin, until the clocks have this front. */
+    begin(reading, front) {
+        const number = () => this.library.frontOf(this.snapshot);
+        while (number() < front) {
+            const at = this.due(reading);
+            // only the mark of an `openwords` can be after the beginning of the next second
+            if (at === null || this.advance(at) && this.advance(this.word(MARK)))
+                return;
+            this.calls.tkc_ntp_snapshot(this.begun, this.ntp);
+            if (this.library.frontOf(this.begun) > number())
+                this.take('second', this.begun, this.library.lastOf(this.begun));
         }
-        return code;
     }
 
-    /** Changes the counter, whose numbers the parser has tested. */
-    change([reading, bits, mult, shift, first]) {
-        const code = this.calls.tkc_counter_new(this.other, Number(bits), Number(mult),
-            Number(shift)) || this.calls.tkc_clock_change_counter(this.clock, reading, this.other,
-            first);
-        if (!code) {
-            this.listed = 0;
-            this.take('counter', reading, first);
-        }
-        return code;
+    advance(reading) {
+        return this.calls.tkc_ntp_advance(this.ntp, reading);
+    }
+
+    /** Returns the reading at which the next second begins, or null if it is after `reading`. */
+    due(reading) {
+        if (!this.isSteered || this.calls.tkc_ntp_next_second(this.library.out, this.ntp))
+            return null;
+        const at = this.library.word(this.library.out);
+        const last = this.library.lastOf(this.snapshot), gap = to =>
+            BigInt.asUintN(64, this.calls.tkc_counter_gap(this.counter, last, to));
+        return gap(at) <= gap(reading) ? at : null;
+    }
+
+    /** Lets the seconds up to a reading begin, as a read there does. */
+    look(reading) {
+        this.library.copy(this.trial, this.ntp, BYTES.ntp);
+        if (this.isSteered && !this.calls.tkc_ntp_advance(this.trial, reading))
+            this.begin(reading, FRONT_END);
+    }
+
+    /** Returns the number of seconds that begin up to a reading, at the rate in force. */
+    secondsUntil(reading) {
+        if (!this.isSteered)
+            return 0n;
+        const real = this.library.get(this.snapshot, 'realtime', reading);
+        return real.code ? 1n : real.sec - this.word(NEXT) + 1n;
     }
 }

@@ -120,7 +120,7 @@ export class Curves {
         const place = this.placeOf(snapshot, reading), base = clock.replace('_coarse', '');
         const isDifferent = stated !== undefined && stated !== nanos;
         this.allReads.add(clock, this.row, place, stated ?? nanos);
-        this.readers?.add(clock, this.row, place, stated ?? nanos);
+        this.readers?.add({ clock, row: this.row, reading, place, nanos: stated ?? nanos });
         this.reach(place);
         if (nanos === null)
             this.mark('get', place ?? this.end, true);

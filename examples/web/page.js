@@ -8,26 +8,28 @@ const $ = id => document.getElementById(id);
 const data = JSON.parse($('data').textContent);
 const asked = new URLSearchParams(location.hash.slice(1));
 
-let module = null, worker = null, id = 0, timer = 0;
+let modules = null, worker = null, id = 0, timer = 0;
 let readers = null; // the text that says who made each read, or none
 let shown = { rows: new Map(), starts: [], drawn: null, picture: null };
 let byPowers = asked.has('powers'), here = null, isBusy = false, wanted = null;
 
-/** Returns the module of the library: that of wasm64, or the same without 64-bit memories. */
-async function moduleOf() {
-    const bytesOf = async text => {
+/** Returns the modules of the library and the session: of wasm64, or without 64-bit memories. */
+async function modulesOf() {
+    const compiled = async text => {
         const packed = Uint8Array.from(atob(text), it => it.charCodeAt(0));
         const stream = new Blob([packed]).stream().pipeThrough(new DecompressionStream('gzip'));
-        return new Response(stream).arrayBuffer();
+        return WebAssembly.compile(await new Response(stream).arrayBuffer());
     };
-    for (const text of data.modules.slice(0, -1)) {
+    const both = async ({ library, session }) =>
+        ({ library: await compiled(library), session: await compiled(session) });
+    for (const texts of data.modules.slice(0, -1)) {
         try {
-            return await WebAssembly.compile(await bytesOf(text));
+            return await both(texts);
         } catch {
             // this browser has no memories of 64 bits
         }
     }
-    return WebAssembly.compile(await bytesOf(data.modules.at(-1)));
+    return both(data.modules.at(-1));
 }
 
 function startWorker() {
@@ -62,7 +64,7 @@ function run() {
     say('running', '');
     timer = setTimeout(() => fail(`ended after ${LIMIT / 1000} seconds`), LIMIT);
     const bytes = new TextEncoder().encode($('script').value);
-    worker.postMessage({ id, module, bytes, readers });
+    worker.postMessage({ id, modules, bytes, readers });
 }
 
 function take(answer) {
@@ -93,11 +95,7 @@ function say(verdict, rest, isBad = false) {
     $('verdict').replaceChildren(head, ` ${rest}`);
 }
 
-function count(report, start) {
-    return report.filter(it => it.startsWith(start) || it.includes(`  ${start}`)).length;
-}
-
-function show({ report = [], lines = [], drawn = null, reads = [], fault = null }) {
+function show({ report = [], lines = [], differing = 0, drawn = null, reads = [], fault = null }) {
     shown = { rows: new Map(), starts: lines, drawn, picture: null };
     report.forEach((text, i) => shown.rows.set(lines[i], { text, record: i + 1 }));
     if (fault) {
@@ -105,9 +103,9 @@ function show({ report = [], lines = [], drawn = null, reads = [], fault = null 
         shown.rows.set(line, { text: fault, isFault: true });
         say(fault, '', true);
     } else {
-        const differing = count(report, 'differs,');
+        const refused = report.filter(it => it.startsWith('no,')).length;
         say(differing ? `${differing} reads differ` : 'done', `${report.length} records, ${
-            count(report, 'no,')} refused`, differing > 0);
+            refused} refused`, differing > 0);
     }
     $('reads').textContent = reads.join('\n');
     document.documentElement.dataset.state = fault ? 'fault' : 'done';
@@ -116,7 +114,7 @@ function show({ report = [], lines = [], drawn = null, reads = [], fault = null 
     showPicture();
 }
 
-/** Returns the line of a record with a fault: quotes apart, a record is a line that isn't empty. */
+/** Returns the line of a record with a fault: a record is a line that isn't empty. */
 function lineOfRecord(record) {
     const lines = $('script').value.split('\n');
     for (let i = 0, found = 0; i < lines.length; i++) {
@@ -269,6 +267,6 @@ function wire() {
 }
 
 wire();
-module = await moduleOf();
+modules = await modulesOf();
 const first = data.examples.findIndex(([name]) => name.startsWith(asked.get('example') ?? '27'));
 choose(Math.max(0, first));

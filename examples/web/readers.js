@@ -9,34 +9,27 @@ import { Falls, fallen, valueOrNew } from './reads.js';
 const LINE = /^(\d+),(\d+),(\d+),(\d+),([a-z_]+|\?),([^,]*)$/;
 const SHOWN_MOST = 20; // programs of a clock, and processes for which it went back
 
-/** Returns the records of a script's reads: their numbers and readings. */
-function readsOf(rows) {
-    return rows.flatMap(({ word, values }, i) =>
-        word === 'get' ? [{ record: i + 2, reading: values[0] }] : []);
-}
-
 /** Returns the reader of a line, which must be that of a read. */
-function readerOf(line, number, { record, reading }) {
+function readerOf(line, number, { row, reading }) {
     const match = LINE.exec(line);
     if (!match)
         throw new Fault(`line ${number} isn't RECORD,READING,PROCESS,THREAD,CALL,PROGRAM`);
-    if (Number(match[1]) !== record || BigInt(match[2]) !== reading)
-        throw new Fault(`line ${number} isn't that of record ${record}`);
+    if (Number(match[1]) !== row || BigInt(match[2]) !== reading)
+        throw new Fault(`line ${number} isn't that of record ${row}`);
     const [process, thread, call, program] = match.slice(3);
     return { process, thread, call, program };
 }
 
-/** Returns the reader of each read, by the number of its record. */
-function readersOf(text, rows) {
-    const lines = text.split('\n'), reads = readsOf(rows);
+/** Returns the reader of each read. */
+function readersOf(text, reads) {
+    const lines = text.split('\n');
     if (lines.pop() !== '')
         throw new Fault('the last line has no end');
     if (lines.length > reads.length)
         throw new Fault(`line ${reads.length + 1} is that of no read`);
     if (lines.length < reads.length)
-        throw new Fault(`record ${reads[lines.length].record} has no line`);
-    return new Map(lines.map((line, i) =>
-        [reads[i].record, readerOf(line, i + 1, reads[i])]));
+        throw new Fault(`record ${reads[lines.length].row} has no line`);
+    return lines.map((line, i) => readerOf(line, i + 1, reads[i]));
 }
 
 function countText(set, word) {
@@ -71,25 +64,20 @@ class Program {
 
 /** The programs that made the reads of a script, if the text of its readers fits. */
 export class Readers {
-    constructor(text, rows) {
+    constructor(text) {
+        this.text = text;
+        this.reads = []; // of the script
         this.clocks = new Map(); // the Program of each name, for each clock
         this.falls = new Map(); // of each clock and process
-        this.readers = new Map();
-        this.fault = null;
-        try {
-            this.readers = readersOf(text, rows);
-        } catch (fault) {
-            if (!(fault instanceof Fault))
-                throw fault;
-            this.fault = fault.message;
-        }
     }
 
-    /** Adds the read of a record: its place and its value in ns, or null. */
-    add(clock, row, place, nanos) {
-        const reader = this.readers.get(row);
-        if (!reader)
-            return;
+    /** Adds a read: its clock, record, reading and place, and its value in ns, or null. */
+    add(read) {
+        this.reads.push(read);
+    }
+
+    /** Adds a read to those of its reader. */
+    assign({ clock, row, place, nanos }, reader) {
         const programs = valueOrNew(this.clocks, clock, () => new Map());
         valueOrNew(programs, reader.program, () => new Program()).add(reader);
         const who = `${clock} went back for ${reader.program}, process ${reader.process},`;
@@ -98,7 +86,8 @@ export class Readers {
     }
 
     clockLines(clock, programs) {
-        const shown = [...programs].slice(0, SHOWN_MOST), rest = [...programs.values()].slice(SHOWN_MOST);
+        const shown = [...programs].slice(0, SHOWN_MOST);
+        const rest = [...programs.values()].slice(SHOWN_MOST);
         const count = rest.reduce((sum, it) => sum + it.count, 0);
         return [...shown.map(([name, program]) => `${clock} read by ${name}, ${program.text()}`),
             ...rest.length ? [`${clock} read by others: ${count} by ${rest.length} programs`] : []];
@@ -106,8 +95,13 @@ export class Readers {
 
     /** Returns lines in words, or that the readers aren't those of the script. */
     lines() {
-        if (this.fault)
-            return [`readers: ${this.fault}`];
+        try {
+            readersOf(this.text, this.reads).forEach((it, i) => this.assign(this.reads[i], it));
+        } catch (fault) {
+            if (!(fault instanceof Fault))
+                throw fault;
+            return [`readers: ${fault.message}`];
+        }
         const falls = fallen(this.falls);
         return [...[...this.clocks].flatMap(([clock, programs]) => this.clockLines(clock, programs)),
             ...falls.slice(0, SHOWN_MOST).map(([who, it]) => `${who} ${it.text()}`),

@@ -1,5 +1,6 @@
 /* SPDX-License-Identifier: MIT OR Apache-2.0 */
 /* worker.js - runs a script for the page, and reads the clocks at its cursor. */
+import { Clocks } from './clocks.js';
 import { Curves } from './curves.js';
 import { Library, REFUSALS } from './library.js';
 import { Fault } from './records.js';
@@ -8,31 +9,18 @@ import { Script, timeText, utcText } from './report.js';
 
 let curves = null; // of the script that was run
 
-/** Returns the line of the text, from 0, in which each record starts. Empty lines are skipped. */
-function linesOf(bytes, ends) {
-    const LF = 10;
-    let line = 0, next = 0;
-    return ends.map(end => {
-        for (; bytes[next] === LF; next++)
-            line++;
-        const start = line;
-        for (; next < Math.min(end, bytes.length); next++)
-            line += Number(bytes[next] === LF);
-        return start;
-    });
-}
-
 /** Returns a script's report and curves, or its fault. The text of its readers may be null. */
-function answerScript(module, bytes, readers) {
-    const library = new Library(module), drawn = new Curves(library);
+function answerScript({ library: module, session }, bytes, readers) {
     curves = null;
     try {
-        const script = new Script(library, bytes, drawn);
-        drawn.readers = readers === null ? null : new Readers(readers, script.rows);
-        const report = script.run();
+        const script = new Script(session, bytes), library = new Library(module);
+        const drawn = new Curves(library), clocks = new Clocks(library, script.session, drawn);
+        drawn.readers = readers === null ? null : new Readers(readers);
+        const report = script.run(clocks);
         curves = drawn;
-        return { report: report.map(lines => lines.join('  ')), lines: linesOf(bytes, script.ends),
-            drawn: drawn.finish(script.clocks), reads: drawn.readLines() };
+        return { report: report.map(lines => lines.replace('\n', '  ')),
+            lines: script.records.map(it => it.line), differing: script.session.differences(),
+            drawn: drawn.finish(clocks), reads: drawn.readLines() };
     } catch (fault) {
         if (!(fault instanceof Fault))
             throw fault;
@@ -52,7 +40,8 @@ function answerCursor(place) {
     return { cursor: { ...where, times: times.map(clockText) } };
 }
 
-onmessage = ({ data: { id, module, bytes, readers, place } }) => {
-    const answer = module ? answerScript(module, bytes, readers) : curves ? answerCursor(place) : {};
+onmessage = ({ data: { id, modules, bytes, readers, place } }) => {
+    const answer = modules ? answerScript(modules, bytes, readers)
+        : curves ? answerCursor(place) : {};
     postMessage({ id, ...answer });
 };

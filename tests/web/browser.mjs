@@ -5,97 +5,17 @@
  *     node tests/web/browser.mjs CHROMIUM PAGE                  runs the tests
  *     node tests/web/browser.mjs CHROMIUM PAGE PICTURE [HASH]   writes a picture of the page, a PNG
  */
-import { spawn } from 'node:child_process';
 import fs from 'node:fs';
-import os from 'node:os';
 import path from 'node:path';
 import { fileURLToPath } from 'node:url';
+import { Browser } from './tab.mjs';
 
 const DATA = fileURLToPath(new URL('../../crates/tk_examples/data/', import.meta.url));
-const MOST = 60000; // ms for a step that must happen
-
-/** A browser with one tab, over a pipe. */
-class Browser {
-    constructor(program) {
-        this.folder = fs.mkdtempSync(path.join(os.tmpdir(), 'page-'));
-        this.process = spawn(program, ['--headless', '--no-sandbox', '--disable-gpu',
-            '--no-first-run', '--remote-debugging-pipe', `--user-data-dir=${this.folder}`,
-            'about:blank'], { stdio: ['ignore', 'ignore', 'ignore', 'pipe', 'pipe'] });
-        this.waiting = new Map();
-        this.number = 0;
-        this.rest = '';
-        this.errors = [];
-        this.requests = []; // the addresses that the page has loaded
-        this.process.stdio[4].on('data', data => this.read(data.toString()));
-    }
-
-    read(text) {
-        const messages = (this.rest + text).split('\0');
-        this.rest = messages.pop();
-        for (const { id, method, params, result, error } of messages.map(it => JSON.parse(it))) {
-            this.waiting.get(id)?.(error ? { error } : result);
-            if (method === 'Network.requestWillBeSent')
-                this.requests.push(params.request.url);
-            if (method === 'Runtime.exceptionThrown')
-                this.errors.push(params.exceptionDetails.exception?.description
-                    ?? params.exceptionDetails.text);
-        }
-    }
-
-    send(method, params = {}) {
-        const id = ++this.number, message = { id, method, params, sessionId: this.session };
-        return new Promise(done => {
-            this.waiting.set(id, done);
-            this.process.stdio[3].write(`${JSON.stringify(message)}\0`);
-        });
-    }
-
-    async open(url, width, height) {
-        const { targetInfos } = await this.send('Target.getTargets');
-        const { targetId } = targetInfos.find(it => it.type === 'page');
-        const { sessionId } = await this.send('Target.attachToTarget', { targetId, flatten: true });
-        this.session = sessionId;
-        await this.send('Runtime.enable');
-        await this.send('Network.enable');
-        await this.send('Emulation.setDeviceMetricsOverride',
-            { width, height, deviceScaleFactor: 1, mobile: false });
-        await this.send('Page.navigate', { url });
-        await this.until('document.getElementById("verdict")?.textContent.includes("records")');
-    }
-
-    async value(expression) {
-        const found = await this.send('Runtime.evaluate', { expression, awaitPromise: true,
-            returnByValue: true });
-        return found.result?.value;
-    }
-
-    /** Waits until an expression is true. */
-    async until(expression) {
-        for (const start = Date.now(); Date.now() - start < MOST;) {
-            if (await this.value(expression))
-                return;
-            await new Promise(done => setTimeout(done, 20));
-        }
-        throw new Error(`never: ${expression}; ${await this.value('document.body.innerText')}`);
-    }
-
-    /** Ends the browser, and removes its folder, which its processes may still write to a while. */
-    async close() {
-        const isEnded = new Promise(done => this.process.once('close', done));
-        this.process.kill();
-        await isEnded;
-        for (let i = 0; i < 50 && fs.existsSync(this.folder); i++) {
-            try {
-                fs.rmSync(this.folder, { recursive: true, force: true });
-            } catch {
-                await new Promise(done => setTimeout(done, 100));
-            }
-        }
-    }
-}
-
 const SETTLED = 'document.getElementById("verdict").textContent.trim() !== "running"';
 const ROWS = `[...document.querySelectorAll('#rows div')].map(it => it.textContent)`;
+const TOPS = `{ const { top } = document.getElementById('script').getBoundingClientRect();
+    [...document.querySelectorAll('#rows div')]
+        .map(it => (it.getBoundingClientRect().top - top - 6) / 18) }`; // (the padding is 6 px)
 const VERDICT = `document.getElementById('verdict').textContent.trim()`;
 
 function require(is, what) {
@@ -115,18 +35,21 @@ function rowsOf(report) {
     return report.trimEnd().replaceAll('\ndiffers,', '  differs,').split('\n');
 }
 
-/** Each row is beside its record: without quotes, a record is a line that isn't empty. */
+/** Each row is beside its record: a record is a line that isn't empty. */
 async function checkPlaces(browser, name, text) {
     const lines = text.split('\n').flatMap((line, i) => line ? [i] : []);
-    const tops = await browser.value(
-        `[...document.querySelectorAll('#rows div')].map(it => parseInt(it.style.top) / 18)`);
-    require(text.includes('"') || JSON.stringify(tops) === JSON.stringify(lines),
-        `${name}: rows at ${tops}`);
+    const tops = await browser.value(TOPS);
+    require(JSON.stringify(tops) === JSON.stringify(lines), `${name}: rows at ${tops}`);
 }
 
 async function checkExample(browser, name) {
-    await runScript(browser, fs.readFileSync(`${DATA}${name}.csv`, 'utf8'));
+    const text = fs.readFileSync(`${DATA}${name}.csv`, 'utf8');
+    await runScript(browser, text);
     const report = `${DATA}${name}.report`, rows = await browser.value(ROWS);
+    if (text.includes('"')) { // in its first record
+        require(rows.join() === 'script: record 1: not a plain line', `${name}: ${rows}`);
+        return;
+    }
     if (!fs.existsSync(report)) {
         const fault = fs.readFileSync(`${DATA}${name}.fault`, 'utf8').trim().replace('tkcore: ', '');
         require(JSON.stringify(rows) === JSON.stringify([fault]), `${name}: ${rows}`);
@@ -134,10 +57,22 @@ async function checkExample(browser, name) {
     }
     const wanted = rowsOf(fs.readFileSync(report, 'utf8'));
     require(JSON.stringify(rows) === JSON.stringify(wanted), `${name}: ${rows.join('\n')}`);
-    await checkPlaces(browser, name, fs.readFileSync(`${DATA}${name}.csv`, 'utf8'));
+    await checkPlaces(browser, name, text);
     const svg = await browser.value(`document.getElementById('plot').innerHTML`);
     const paths = svg.match(/<path d="M[^"]*"/g) ?? [];
     require(paths.length >= 2 && !svg.includes('NaN'), `${name}: ${paths.length} panels`);
+}
+
+/** The verdict counts records and reads, and a fault is beside its record. */
+async function checkVerdict(browser) {
+    await runScript(browser, 'open,32,16777216,24,0,1700000000,0\nupdate,5\nupdate,4\n'
+        + 'get,9,monotonic,8\nget,9,monotonic,9\nget,4294967296,tai,1\n');
+    require(await browser.value(VERDICT) === '2 reads differ 6 records, 2 refused',
+        await browser.value(VERDICT));
+    await runScript(browser, 'open,8,256,0,0,0,0\n\nget,1,"tai"\n');
+    require((await browser.value(ROWS)).join() === 'script: record 2: not a plain line',
+        await browser.value(ROWS));
+    require((await browser.value(TOPS)).join() === '2', 'a fault is beside another record');
 }
 
 /** The cursor after the last record reads the clocks as `get` does there. */
@@ -278,6 +213,7 @@ async function check(browser, page) {
         ext === '.report' || ext === '.fault' && !fs.existsSync(`${DATA}${name}.stamps`));
     for (const { name } of names)
         await checkExample(browser, name);
+    await checkVerdict(browser);
     await checkCursor(browser);
     await checkReads(browser);
     await checkReaders(browser);

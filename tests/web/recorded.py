@@ -2,7 +2,9 @@
 """Lets tkrun record programs for which REALTIME goes back, and compares what the page says of the
 record and its readers with what the programs print.
 
-    tests/web/recorded.py MODULE TKRUN [--node FLAG]
+    tests/web/recorded.py FOLDER TKRUN [--node FLAG]
+
+FOLDER has tkcore.wasm and session.wasm.
 """
 import argparse
 import base64
@@ -22,7 +24,7 @@ syscall(228, 0, my $now = pack 'q2', 0, 0); system '/usr/bin/date +%s >/dev/null
 def say(given, script, readers):
     """Returns what the page says of the reads of a script."""
     line = b" ".join(map(base64.b64encode, (script, readers)))
-    words = ["node", *given.node, str(TOP / "tests/web/reports.mjs"), given.module]
+    words = ["node", *given.node, str(TOP / "tests/web/reports.mjs"), given.folder]
     ran = subprocess.run(words, input=line + b"\n", capture_output=True, check=True)
     status, _, error, drawn = json.loads(ran.stdout)
     if status:
@@ -32,7 +34,7 @@ def say(given, script, readers):
 
 def main():
     read = argparse.ArgumentParser(usage=__doc__)
-    read.add_argument("module")
+    read.add_argument("folder")
     read.add_argument("tkrun")
     read.add_argument("--node", action="append", default=[])
     given = read.parse_args()

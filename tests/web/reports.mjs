@@ -2,22 +2,24 @@
 /*
  * Makes the reports of scripts with the code of examples/web, for compare.py.
  *
- *     node tests/web/reports.mjs MODULE <SCRIPTS
+ *     node tests/web/reports.mjs FOLDER <SCRIPTS
  *
- * A line of SCRIPTS is a script in base64, and after a space may be its readers. A line of the output
- * is a list in JSON for it: the exit status that tkcore would have, its output, its line of standard
- * error, and for some scripts what the page says of their reads, and what the cursor shows at some
- * places. For each of these places there is a script whose last lines are these reads.
+ * FOLDER has tkcore.wasm and session.wasm. A line of SCRIPTS is a script in base64, and after a space
+ * may be its readers. A line of the output is a list in JSON for it: the exit status that tkcore would
+ * have, its output, its line of standard error, and for some scripts what the page says of their reads,
+ * and what the cursor shows at some places. For each of these places there is a script whose last lines
+ * are these reads.
  */
-import fs from 'node:fs';
 import readline from 'node:readline';
+import { Clocks } from '../../examples/web/clocks.js';
 import { Curves, SECONDS_MOST } from '../../examples/web/curves.js';
 import { Library } from '../../examples/web/library.js';
-import { Fault, recordsOf } from '../../examples/web/records.js';
+import { Fault } from '../../examples/web/records.js';
 import { Readers } from '../../examples/web/readers.js';
 import { Script, timeText, utcText } from '../../examples/web/report.js';
+import { modulesIn } from './modules.mjs';
 
-const module = new WebAssembly.Module(fs.readFileSync(process.argv[2]));
+const modules = modulesIn(process.argv[2]);
 
 const DRAWN_EVERY = 4; // scripts
 const PLACES = [0.37, 1]; // parts of what is drawn
@@ -47,26 +49,41 @@ function cursorAt(curves, records, first, place) {
 
 /** Returns what the cursor shows. Drawing changes no line of the report, as every script shows. Where
  * the next second was due long ago, a read in a script would let all seconds since then begin. */
-function cursorsOf(curves, script, bytes, first) {
-    const records = [...recordsOf(bytes)].map(({ fields }) => fields.join(','));
-    const { end } = curves.finish(script.clocks), { snapshot } = script.clocks;
-    if (script.clocks.secondsUntil(script.library.lastOf(snapshot)) > SECONDS_MOST)
+function cursorsOf(curves, clocks, records) {
+    const { end } = curves.finish(clocks), { library } = curves, first = curves.changes[0].reading;
+    if (clocks.secondsUntil(library.lastOf(clocks.snapshot)) > SECONDS_MOST)
         return [];
     return PLACES.flatMap(part =>
         cursorAt(curves, records, first, BigInt(Math.floor(end * part))));
 }
 
+/** Throws if the ideal line jumps at a change: it goes on but for rounding to ns. */
+function checkPlaces(changes) {
+    for (const { here, there, row } of changes) {
+        const [from, to] = [here?.place ?? there.place, there.place];
+        if (from !== null && to !== null && ![-1n, 0n, 1n].includes(to - from))
+            throw new Error(`record ${row} moves the ideal line from ${from} ns to ${to} ns`);
+    }
+}
+
+/** Returns the script's lines, and what the page says of its reads and shows at its cursor. */
+function drawnOf(script, bytes, readers) {
+    const library = new Library(modules.library), curves = new Curves(library);
+    const clocks = new Clocks(library, script.session, curves);
+    if (readers !== undefined)
+        curves.readers = new Readers(readers.toString());
+    const lines = script.run(clocks);
+    checkPlaces(curves.changes);
+    const records = script.records.map(({ start, end }) => bytes.toString('latin1', start, end));
+    return { lines, drawn: { reads: curves.readLines(), cursors: cursorsOf(curves, clocks, records) } };
+}
+
 function reportOf(bytes, readers, isDrawn) {
     try {
-        const library = new Library(module), curves = isDrawn ? new Curves(library) : null;
-        const script = new Script(library, bytes, curves);
-        if (isDrawn && readers !== undefined)
-            curves.readers = new Readers(readers.toString(), script.rows);
-        const first = library.lastOf(script.clocks.snapshot), lines = script.run().flat();
-        const isDifferent = lines.some(line => line.startsWith('differs,'));
-        return [isDifferent ? 3 : 0, lines.map(line => `${line}\n`).join(''), '',
-            isDrawn ? { reads: curves.readLines(),
-                cursors: cursorsOf(curves, script, bytes, first) } : null];
+        const script = new Script(modules.session, bytes);
+        const { lines, drawn } = isDrawn ? drawnOf(script, bytes, readers)
+            : { lines: script.run(), drawn: null };
+        return [script.session.differences() ? 3 : 0, lines.map(it => `${it}\n`).join(''), '', drawn];
     } catch (fault) {
         if (!(fault instanceof Fault))
             throw fault;
