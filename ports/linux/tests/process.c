@@ -14,22 +14,12 @@
 #endif
 
 #include "kernel/time/ntp.c"
+#define ntp_notify_cmos_timer() ((void)process_log.notes++)
 #include "kernel/time/timekeeping.c"
 
 static u64 now, slept;
 
-static u64 read_counter(struct clocksource *clock)
-{
-	return now & clock->mask;
-}
-
-/* The readings of the other counter, OTHER cycles ahead. */
-static u64 read_other(struct clocksource *clock)
-{
-	return (now + OTHER) & clock->mask;
-}
-
-static struct clocksource counters[2] = { { .read = read_counter }, { .read = read_other } };
+#include "process_counters.h"
 
 int kernel_warnings;
 struct process_log process_log;
@@ -77,15 +67,6 @@ struct timespec64 ns_to_timespec64(s64 nsec)
 	return out;
 }
 
-static void describe(struct clocksource *counter, u32 bits, u32 mult, u32 shift)
-{
-	counter->mask = CLOCKSOURCE_MASK(bits);
-	counter->mult = mult;
-	counter->shift = shift;
-	counter->maxadj = mult / 100 * 11;
-	counter->max_idle_ns = ~0ULL;
-}
-
 /*
  * Boots with a parameter ntp_tick_adj=, at a second of REALTIME that the persistent clock has, some
  * time after the machine started.
@@ -93,6 +74,7 @@ static void describe(struct clocksource *counter, u32 bits, u32 mult, u32 shift)
 void process_boot(u32 bits, u32 mult, u32 shift, u64 reading, s64 tick_adj, s64 wall, u64 uptime)
 {
 	describe(&counters[0], bits, mult, shift);
+	memset(&process_uses, 0, sizeof(process_uses));
 	now = reading;
 	process_tick_adj = tick_adj;
 	process_wall = wall;
@@ -151,6 +133,21 @@ void process_tick(u64 reading)
 	update_wall_time();
 }
 
+/* Makes a tick. Returns in how many SSE registers it leaves another number than they had. */
+int process_tick_with_sse(u64 reading)
+{
+	static u8 xmm[2][16][16] __aligned(16);
+	int i, changed = 0;
+
+	for (i = 0; i < 16; i++)
+		memset(xmm[0][i], 0x11 + i, 16);
+	now = reading;
+	call_with_sse(update_wall_time, xmm);
+	for (i = 0; i < 16; i++)
+		changed += !!memcmp(xmm[0][i], xmm[1][i], 16);
+	return changed;
+}
+
 int process_adjtimex(void *timex, u64 reading)
 {
 	now = reading;
@@ -182,6 +179,16 @@ void process_signal(u64 out[10])
 }
 #endif
 
+/* Stores how many times REALTIME or TAI was set, and the clocksource changed (cross timestamps). */
+void process_sequences(u32 out[2])
+{
+	struct system_time_snapshot snapshot;
+
+	ktime_get_snapshot(&snapshot);
+	out[0] = snapshot.clock_was_set_seq;
+	out[1] = snapshot.cs_was_changed_seq;
+}
+
 void process_suspend(u64 reading)
 {
 	now = reading;
@@ -195,9 +202,21 @@ void process_resume(u64 ns, u64 reading)
 	timekeeping_resume();
 }
 
+/* The RTC reports a sleep that has ended. */
+void process_inject(s64 sec, s64 nsec, u64 reading)
+{
+	struct timespec64 delta = { sec, nsec };
+
+	now = reading;
+	timekeeping_inject_sleeptime64(&delta);
+}
+
+#define READ_TIMESPEC(call) ({ struct timespec64 ts; call(&ts); timespec64_to_ns(&ts); })
+
 /*
  * Returns a clock's time in ns, by the number of clock_gettime(2); from 100 on by the reads for an
- * NMI, and from 200 on its whole seconds at the last change.
+ * NMI, from 200 on its whole seconds at the last change, and from 300 on by the reads of a struct
+ * timespec64. 407 and 411 are what the vDSO has of BOOTTIME and TAI.
  */
 s64 process_time(u32 clock, u64 reading)
 {
@@ -206,6 +225,7 @@ s64 process_time(u32 clock, u64 reading)
 	case 0: return ktime_get_with_offset(TK_OFFS_REAL);
 	case 4: return ktime_get_raw();
 	case 5: return ktime_get_coarse_with_offset(TK_OFFS_REAL);
+	case 6: return READ_TIMESPEC(ktime_get_coarse_ts64);
 	case 7: return ktime_get_with_offset(TK_OFFS_BOOT);
 	case 11: return ktime_get_with_offset(TK_OFFS_TAI);
 	case 100: return ktime_get_real_fast_ns();
@@ -213,6 +233,11 @@ s64 process_time(u32 clock, u64 reading)
 	case 104: return ktime_get_raw_fast_ns();
 	case 200: return ktime_get_real_seconds();
 	case 201: return ktime_get_seconds();
+	case 300: return READ_TIMESPEC(ktime_get_real_ts64);
+	case 301: return READ_TIMESPEC(ktime_get_ts64);
+	case 304: return READ_TIMESPEC(ktime_get_raw_ts64);
+	case 407: return timespec64_to_ns(&tk_core.timekeeper.monotonic_to_boot);
+	case 411: return tk_core.timekeeper.tai_offset;
 	default: return ktime_get();
 	}
 }

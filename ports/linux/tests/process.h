@@ -6,6 +6,10 @@
 #include <string.h>
 #include "linux.h"
 
+/* Lets the RTC report sleeps. */
+#define CONFIG_PM_SLEEP 1
+#define CONFIG_RTC_HCTOSYS_DEVICE "rtc0"
+
 #define CLOCK_SET_BOOT 2
 #define KERN_ERR "<3>"
 #define KERN_WARNING "<4>"
@@ -26,12 +30,15 @@
 
 #define div_s64(a, b) ((s64)(a) / (s32)(b))
 
-/* What calls have logged: audit records, the times that REALTIME was moved by, and leap seconds. */
+/*
+ * What calls have logged: audit records, the times that REALTIME was moved by, and leap seconds; and
+ * how many calls inform timers of a set clock, and the RTC of a request.
+ */
 enum { AUDIT_NTP_OFFSET, AUDIT_NTP_FREQ, AUDIT_NTP_STATUS, AUDIT_NTP_TAI, AUDIT_NTP_TICK,
        AUDIT_NTP_ADJUST, AUDIT_NTP_NVALS };
 struct process_log {
 	s64 old[AUDIT_NTP_NVALS], new[AUDIT_NTP_NVALS], records, moved_sec, moved_nsec, moves;
-	s64 inserted, deleted;
+	s64 inserted, deleted, sets, notes;
 };
 extern struct process_log process_log;
 extern void process_print(const char *format, ...);
@@ -51,6 +58,22 @@ extern void process_print(const char *format, ...);
 	process_log.moved_sec = (offset).tv_sec, process_log.moved_nsec = (offset).tv_nsec)
 #define printk_deferred(...) process_print(__VA_ARGS__)
 
+#undef clock_was_set
+#undef clock_was_set_delayed
+#define clock_was_set(bases) ((void)(bases), (void)process_log.sets++)
+#define clock_was_set_delayed() ((void)process_log.sets++)
+
+/* The uses of each counter and of its module; and whether the next counter's enable() fails. */
+struct process_uses {
+	s32 enabled[2], modules, is_broken, is_gone;	/* (is_gone: its module can't be used) */
+};
+extern struct process_uses process_uses;
+
+#undef try_module_get
+#undef module_put
+#define try_module_get(owner) ((void)(owner), !process_uses.is_gone && ++process_uses.modules)
+#define module_put(owner) ((void)(owner), (void)process_uses.modules--)
+
 /* ntp_tick_adj= may have any number. */
 extern s64 process_tick_adj;
 #undef kstrtos64
@@ -64,3 +87,4 @@ extern u64 process_uptime;
 /* (kernel/time/timekeeping.h) */
 extern int timekeeping_suspend(void);
 extern void timekeeping_resume(void);
+#include "process_sse.h"

@@ -9,6 +9,8 @@ tests/kernel_ntp. SOURCES may name a folder that kernel.unpack has filled. Then 
 calls:
 
   - all clocks of the port, also by the reads for an NMI, with the definitions of tests/model: equal
+  - whether timers and cross timestamps notice that REALTIME or TAI was set: if it was
+  - the SSE registers before and after a tick that uses them: equal
   - with CONFIG_NTP_PPS, pulses too, the fields of each reply that show the signal, and the lines in
     the log: equal
   - the errno of wrong arguments of adjtimex(2) and settimeofday(2) with the unmodified kernel's:
@@ -17,6 +19,7 @@ calls:
   - what seconds gain with ntp_tick_adj=: equal but for the unmodified kernel's rounding
   - a TAI offset that puts TAI past the limit of all clocks: EINVAL, where the unmodified kernel has
     no limit
+  - the answer to a counter that the library refuses: an error, and the old counter stays in use
   - MONOTONIC with the times that the frequencies say, with ticks as rare as the port allows
   - MONOTONIC at the reading of a tick, before and after the tick: it goes back at no tick of the
     port, and does with -DTKC_CONTROL
@@ -38,7 +41,8 @@ sys.dont_write_bytecode = True
 import kernel  # noqa: E402
 from random_calls import EINVAL, HZ, OTHER, Timeline  # noqa: E402
 from random_pulses import PulseTimeline  # noqa: E402
-from single import compare_tick_adj, pass_limit, swing, ticks_back  # noqa: E402
+from single import (compare_tick_adj, pass_limit, refuse_counter, swing,  # noqa: E402
+                    ticks_back)
 from wrong_calls import Wrong  # noqa: E402
 
 SWING_NS = 100  # that MONOTONIC may be off by between rare ticks
@@ -97,9 +101,12 @@ def main():
         compare_tick_adj(unmodified, port)
         limits = pass_limit(unmodified) >= 0, pass_limit(port)
         backs, off = (ticks_back(port), ticks_back(control)), swing(port)
+        refused = refuse_counter(port)
         warned = sum(ctypes.c_int.in_dll(it, "kernel_warnings").value for it in (port, with_pulses))
     if limits != (True, EINVAL):
         sys.exit(f"process: at the limit, the answers are {limits}")
+    if refused != (-1, 1, 0):
+        sys.exit(f"process: the answers to a counter that the library refuses are {refused}")
     if backs[0] or not backs[1]:
         sys.exit(f"process: MONOTONIC goes back at {backs[0]} ticks, and {backs[1]} of the control")
     if off > SWING_NS:

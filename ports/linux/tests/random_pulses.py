@@ -34,6 +34,8 @@ class PulseTimeline(Timeline):
         self.lines = {}
 
     def kind(self):
+        if self.random.randrange(200) == 0:
+            return "lose"
         return "pulse" if self.random.randrange(2) else super().kind()
 
     def ask(self):
@@ -56,16 +58,38 @@ class PulseTimeline(Timeline):
                       offset=self.random.randrange(-500, 500),
                       freq=self.random.randrange(-2**25, 2**25))
 
+    def second(self):
+        """The cycles of a second."""
+        counter = self.steered.clock.counter
+        return (NANOS << counter.shift) // counter.mult
+
     def pulse(self):
-        signal, counter = self.steered.signal, self.steered.clock.counter
-        second = (NANOS << counter.shift) // counter.mult
-        later = self.random.choice([second] * 20 + [0, 12 * second])
-        reading = (self.steered.clock.last + later) % 2**counter.bits
+        later = self.random.choice([1] * 20 + [0, self.random.randrange(9, 13)]) * self.second()
         if self.random.randrange(30) == 0:
             self.drift = self.random.randrange(-600_000, 600_000)
-        self.raw += self.random.choice([NANOS] * 40 + [0, 9 * NANOS]) + self.drift
+        gap = self.random.choice([NANOS] * 40 + [0, 9 * NANOS]) + self.drift
         rare = self.random.choice([self.random.randrange(NANOS), NANOS // 2])
-        nsec = self.random.choice([self.random.randrange(500)] * 9 + [rare])
+        self.take(later, gap, self.random.choice([self.random.randrange(500)] * 9 + [rare]))
+
+    def lose(self):
+        """The signal is lost, and a frequency is asked for before the next pulse. The first
+        interval is compared with that frequency. There is none before MONOTONIC_RAW is 1 s."""
+        clock, wait = self.steered.clock, self.random.randrange(10, 13) * self.second()
+        reading = (clock.last + wait) % 2**clock.counter.bits
+        self.calls.process_tick(self.at(reading))
+        self.forward_to(reading)
+        self.adjtimex(modes=FREQUENCY, freq=self.random.choice([-400, 400]) << 16)
+        self.raw = self.random.choice([self.raw, -1, 0])
+        self.take(0, NANOS, 100)
+        for _ in range(5):
+            self.take(self.second(), NANOS + self.random.randrange(20_000), 100)
+
+    def take(self, later, gap, nsec):
+        """A pulse some cycles after the last command, and a gap of MONOTONIC_RAW after the last
+        pulse."""
+        signal, clock = self.steered.signal, self.steered.clock
+        reading = (clock.last + later) % 2**clock.counter.bits
+        self.raw += gap
         had = self.steered.ntp.status & STA_PPSSIGNAL
         self.calls.process_pulse(nsec, u64(self.raw), self.at(reading))
         self.forward_to(reading)
@@ -74,6 +98,11 @@ class PulseTimeline(Timeline):
         self.steered.pulse(reading, nsec, self.raw)
         self.taken += signal.calcnt - was.calcnt
         self.compare_lines(list(lines_of(was, signal, self.steered.ntp.status, self.raw)))
+
+    def do_asleep(self, reading):
+        """A pulse that comes while the machine sleeps does nothing."""
+        self.calls.process_pulse(100, u64(self.raw + NANOS), self.at(reading))
+        self.compare_lines([])
 
     def compare_lines(self, expected):
         """Compares the lines that the last pulse has logged, and counts each kind."""

@@ -23,6 +23,18 @@ def pass_limit(calls):
     return calls.process_adjtimex(ctypes.byref(request), u64(4 * 10**7))
 
 
+def refuse_counter(calls):
+    """Goes on with a counter that the library refuses. Returns the answer, how many times the port
+    warns, and by how many ns MONOTONIC, the old counter's, is off 1 s later."""
+    calls.process_boot(64, 8388608, 23, u64(0), s64(0), s64(0), u64(0))
+    warnings = ctypes.c_int.in_dll(calls, "kernel_warnings")
+    before = warnings.value
+    code = calls.process_switch(64, 0, 23, u64(10**7))
+    warned, warnings.value = warnings.value - before, before
+    calls.process_tick(u64(10**9))
+    return code, warned, calls.process_time(1, u64(10**9)) - 10**9
+
+
 def ticks_back(calls):
     """Returns how many of 2,000 ticks let MONOTONIC go back, while offsets change the rate."""
     calls.process_boot(64, 8388608, 23, u64(0), s64(0), s64(0), u64(0))
@@ -39,12 +51,13 @@ def ticks_back(calls):
     return back
 
 
-def gained(calls, tick_adj):
-    """Boots with ntp_tick_adj=, asks for a frequency of 20 ppm, and returns the ns that 10 s gain,
-    and the frequency that a reply then has."""
+def gained(calls, tick_adj, ppm):
+    """Boots with ntp_tick_adj=, asks for a frequency unless it is 0, and returns the ns that 10 s
+    gain, and the frequency that a reply then has."""
     calls.process_boot(64, 8388608, 23, u64(0), s64(tick_adj), s64(0), u64(0))
-    request = Timex.of(modes=FREQUENCY | TICK, freq=20 << 16, tick=10_000)
-    calls.process_adjtimex(ctypes.byref(request), u64(0))
+    request = Timex.of(modes=FREQUENCY | TICK, freq=ppm << 16, tick=10_000)
+    if ppm:
+        calls.process_adjtimex(ctypes.byref(request), u64(0))
     for number in range(1, 2501):
         calls.process_tick(u64(number * 4 * 10**6))
     reply = Timex.of(modes=0)
@@ -54,11 +67,14 @@ def gained(calls, tick_adj):
 
 def compare_tick_adj(unmodified, port):
     """Compares what seconds gain with ntp_tick_adj=. The unmodified kernel's rate has a tick's error."""
-    for ns in 0, 30_001, -70_000, 400_000:
-        (old, was), (new, freq) = gained(unmodified, ns), gained(port, ns)
+    for ns in 0, 30_999, -70_000, 400_000:
+        (old, was), (new, freq) = gained(unmodified, ns, 20), gained(port, ns, 20)
         if abs(new - 10 * (ns + 20_000)) > 20 or abs(new - old) > 2000 or (was, freq) != (20 << 16,) * 2:
             sys.exit(f"process: with ntp_tick_adj={ns}, 10 s gain {new} ns, in the unmodified kernel "
                      f"{old}, and the frequencies are {freq} and {was}")
+    new, freq = gained(port, -70_000, 0)
+    if abs(new + 700_000) > 20 or freq:
+        sys.exit(f"process: with ntp_tick_adj=-70000 and no request, 10 s gain {new} ns")
 
 
 def swing(calls):

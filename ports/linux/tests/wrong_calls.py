@@ -23,17 +23,19 @@ class Log(ctypes.Structure):
 
     _fields_ = [("old", ctypes.c_int64 * 6), ("new", ctypes.c_int64 * 6),
                 *((it, ctypes.c_int64) for it in ("records", "moved_sec", "moved_nsec", "moves",
-                                                  "inserted", "deleted"))]
+                                                  "inserted", "deleted", "sets", "notes"))]
 
 
 def logged(kernel):
     """Returns what the last calls of a kernel have logged: the changes of its audit records, the
-    number of them, of moves of REALTIME and of leap seconds; and the ns of the last move."""
+    number of them, of moves of REALTIME and of leap seconds; the ns of the last move; and how many
+    calls informed timers of a set clock, and the RTC of a request."""
     log = Log()
     kernel.process_logged(ctypes.byref(log))
     changes = [(it, old, new) for it, (old, new) in enumerate(zip(log.old, log.new)) if old != new]
     moved = log.moved_sec * 10**9 + log.moved_nsec
-    return (changes if log.records else [], log.records, log.moves, log.inserted, log.deleted), moved
+    counts = log.records, log.moves, log.inserted, log.deleted
+    return (changes if log.records else [], *counts), moved, log.sets, log.notes
 
 
 class Wrong:
@@ -71,7 +73,9 @@ class Wrong:
             logged(it)
 
     def compare_logs(self, text):
-        (old, moved), (new, moved_here) = (logged(it) for it in self.kernels)
+        (old, moved, _, notes), (new, moved_here, _, notes_here) = map(logged, self.kernels)
+        if notes > notes_here:  # (the unmodified kernel informs of no refused step)
+            sys.exit(f"process: {text}: the RTC isn't informed")
         if old != new or abs(moved - moved_here) > APART_NS:
             sys.exit(f"process: {text}: the unmodified kernel logs {old} and {moved} ns, "
                      f"ours {new} and {moved_here} ns")

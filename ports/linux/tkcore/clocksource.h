@@ -82,6 +82,7 @@ static int change_clocksource(void *data)
 		tk_setup_internals(tk, to);
 	}
 	tk_end(flags, TK_CLOCK_WAS_SET);
+	clock_was_set_delayed();	/* (a leap second may have begun) */
 	if (unused->disable)
 		unused->disable(unused);
 	module_put(unused->owner);

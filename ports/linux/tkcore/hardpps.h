@@ -15,7 +15,8 @@ void hardpps(const struct timespec64 *phase_ts, const struct timespec64 *raw_ts)
 	now = tk_begin(&flags);
 	if (!tk_forward(now))
 		tk_take_pulse(now, phase_ts->tv_nsec, timespec64_to_ns(raw_ts));
-	tk_end(flags, 0);
+	if (tk_end(flags, 0))	/* a leap second has begun */
+		clock_was_set_delayed();
 }
 EXPORT_SYMBOL(hardpps);
 #endif
