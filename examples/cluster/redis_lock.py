@@ -54,7 +54,8 @@ def true_times(record):
 
 def held_at_once(seed):
     """Returns for how long both clients held the lock in a run, in s; below 0 if they never did."""
-    network = f"127.{1 + os.getpid() % 62}.{seed % 256}"  # another one for a run at the same time
+    # another one for a run at the same time, of as many digits
+    network = f"127.{10 + os.getpid() % 54}.{seed % 256}"
     hold_as = f"{sys.executable} {__file__} hold {network}.1"
     session = (f"{TKRUN} node server -- redis-server --bind {network}.1 --port {PORT} --save '' "
                "--protected-mode no --hz 1 >log & S=$!\n"

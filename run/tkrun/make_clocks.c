@@ -2,6 +2,7 @@
 /* make_clocks.c - makes the clocks that the processes of a run share. */
 #define _GNU_SOURCE
 #include "idle.h"
+#include "seeds.h"
 
 #include "clocks/rows.h"
 
@@ -19,6 +20,7 @@ enum {
 	UPDATE_NANOS = 10000000, /* the span between two updates */
 	LEAST_WRAP = 4000000,	 /* ns; a counter must not wrap faster */
 	TSC_NANOS = 300000000,	 /* for which the TSC's rate is measured */
+	NAMES_MOST = 64,	 /* of runs of one seed at a time */
 };
 
 /* The TSC and MONOTONIC_RAW, as close together as a few tries give. */
@@ -95,6 +97,22 @@ __attribute__((noreturn)) static void fail_clocks(void)
 	     strerror(errno));
 }
 
+/* Makes a folder in a place. Programs find its name in their environment. With --seed, it comes from
+ * the seed, unless other runs have these names now. */
+static bool make_folder_in(struct node *node, const char *place)
+{
+	uint64_t name = seed_for(node->options.seed, SEED_FOLDER);
+
+	for (int i = 0; node->options.has_seed && i < NAMES_MOST; i++, name++) {
+		snprintf(node->folder, sizeof(node->folder), "%s/tkrun.%06x", place,
+			 (unsigned int)(name & 0xffffff));
+		if (!mkdir(node->folder, 0700))
+			return true;
+	}
+	snprintf(node->folder, sizeof(node->folder), "%s/tkrun.XXXXXX", place);
+	return mkdtemp(node->folder);
+}
+
 /* Makes the folder of the first clocks: in /dev/shm, or else in TMPDIR or /tmp. */
 static void make_folder(struct node *node)
 {
@@ -102,9 +120,7 @@ static void make_folder(struct node *node)
 	const char *places[] = { "/dev/shm", temporary ? temporary : "/tmp" };
 
 	for (int i = 0; i < 2; i++) {
-		snprintf(node->folder, sizeof(node->folder), "%s/tkrun.XXXXXX",
-			 places[i]);
-		if (!mkdtemp(node->folder))
+		if (!make_folder_in(node, places[i]))
 			continue;
 		if (make_files(node))
 			return;

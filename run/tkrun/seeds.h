@@ -5,7 +5,7 @@
 
 #include "splitmix.h"
 
-enum seed_use { SEED_WALKS, SEED_LINKS, SEED_TURNS, SEED_BYTES };
+enum seed_use { SEED_WALKS, SEED_LINKS, SEED_TURNS, SEED_BYTES, SEED_FOLDER };
 
 /* Returns the seed for a use. Those of two uses don't depend on each other. */
 static inline uint64_t seed_for(uint64_t seed, enum seed_use use)

@@ -106,10 +106,23 @@ static void set_one(void)
 	CHECK(is_same(of("copy").st_mtim, before.st_mtim));
 }
 
+/* Some of so many times have the same place in the list of those that were set. */
+static void set_many(void)
+{
+	put("many", "");
+	for (int i = 0; i < 3000; i++) {
+		struct timespec time = host_now();
+
+		CHECK(!utimensat(AT_FDCWD, "many", TIMES(time), 0));
+		CHECK(is_same(of("many").st_mtim, time));
+	}
+}
+
 int main(void)
 {
 	find_counter();
 	set_times();
 	set_one();
+	set_many();
 	return faults;
 }

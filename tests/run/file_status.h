@@ -58,13 +58,25 @@ static inline void put(const char *path, const char *text)
 	close(file);
 }
 
-/* Sleeps, with fractions of a second: long enough for a tick of the host's at three times its
- * speed. */
+/* Returns the time of the host's last tick. */
+static inline struct timespec host_tick(void)
+{
+	struct timespec time;
+
+	host_call(SYS_clock_gettime, CLOCK_REALTIME_COARSE, (long)&time, 0, 0, 0, HOST_CALL);
+	return time;
+}
+
+/* Sleeps, with fractions of a second, and until the host's clock has ticked: files that are changed
+ * before and after that have other times. A tick may be late on a busy machine. */
 static inline void pass(long sec)
 {
 	const struct timespec span = { is_still ? sec : 0, 112345678 };
+	struct timespec before = host_tick();
 
-	nanosleep(&span, NULL);
+	do
+		nanosleep(&span, NULL);
+	while (!is_still && is_same(host_tick(), before));
 }
 
 static inline void check_same(const struct stat *one, const struct stat *other)

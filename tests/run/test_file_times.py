@@ -7,7 +7,7 @@ import unittest
 
 from runs import OTHER, STILL, TKRUN, RunTest, call, needs_root, program
 
-CHANGES, SETS = program("file_changes"), program("file_sets")
+CHANGES, SETS, LIMITS = map(program, ("file_changes", "file_sets", "file_limits"))
 FILE_TIMES = [*STILL, "--file-times"]
 START = 2 * 10**9  # in 2033
 OLD = 1234567890123456789
@@ -98,6 +98,15 @@ class FileTimes(RunTest):
         run = call([self.share() / "bin/tkrun", *map(str, FILE_TIMES), "--quiet", "--start",
                     str(START), *map(str, self.in_folder("sh", "-c", text))])
         self.assertEqual((run.returncode, run.stdout), (0, f"{START + 5}\n"), run.stderr)
+
+    @needs_root("changes the memory of the clocks")
+    def test_a_million_moments(self):
+        run = self.start(*FILE_TIMES, *self.in_folder(LIMITS))
+        self.assertEqual((run.returncode, run.stdout), (0, ""))
+        self.assertIn("newer files have wrong times: the clocks moved too often", run.stderr)
+        run = self.start("--file-times", *self.in_folder(LIMITS))
+        self.assertEqual((run.returncode, run.stdout), (0, ""))
+        self.assertNotIn("wrong times", run.stderr)
 
     def test_a_seed(self):
         text = "touch f; sleep 1; stat -c %.9Y f; stat -c %.9X f"

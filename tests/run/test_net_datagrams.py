@@ -1,5 +1,6 @@
 """Datagrams between nodes with --link. All times are computed here: a program starts at 0, and a
 sleep of a second ends 1 ns after it."""
+import pathlib
 import re
 import socket
 import unittest
@@ -230,6 +231,29 @@ class Datagrams(LinkTest):
         by_ctl = self.on_links(["a,b,delay=100ms"], programs, "--plan", plan, before=(
             f"(sleep 2.5; {TKRUN} ctl partition a b; sleep 1; {TKRUN} ctl heal a b) &"))
         self.assertEqual(arrivals(by_ctl["b"])[0], [0, 1, 3, 4, 5, 6, 7, 8])
+
+    def test_the_order_of_links_at_one_time(self):
+        send = "time.sleep(1); udp().sendto(b'{}', (C, PORT))"
+        for names in ("ab", "ba"):
+            out = self.on_links([f"{name},c,delay=10ms" for name in names], {
+                "a": send.format("a"), "b": send.format("b"),
+                "c": "s = udp(C, PORT)\nfor i in range(2): show(s.recv(9).decode())"})
+            self.assertEqual(out["c"], [[name, SECOND + 1 + 10 * MILLI] for name in names])
+
+    def test_the_most_that_is_on_its_way(self):
+        # 16,384 datagrams; some more wait in a queue until the first ones have arrived
+        queue = int(pathlib.Path("/proc/sys/net/unix/max_dgram_qlen").read_text())
+        out = self.on_links(["a,b,delay=1"], {
+            "b": f"s = udp(*AT_B); open('{self.folder}/pid', 'w').write(str(os.getpid()))\n"
+                 "time.sleep(9)",
+            "a": f"""
+                time.sleep(1); s = udp()
+                for i in range(16384): s.sendto(b'', AT_B)
+                show()
+                for i in range({queue} + 9): s.sendto(b'', AT_B)
+                show(); os.kill(int(open('{self.folder}/pid').read()), signal.SIGKILL)
+                """})
+        self.assertEqual(out["a"], [[SECOND + 1], [2 * SECOND + 1]])
 
     def test_a_partition_cuts_both_directions_of_one_link(self):
         out = self.on_links(["a,b", "b,a,delay=1ms", "b,c"], {

@@ -1,5 +1,6 @@
 """--seed: random bytes, the numbers of processes and their addresses are the same in each run."""
 import os
+import random
 import signal
 import subprocess
 import time
@@ -70,6 +71,20 @@ class Bytes(RunTest):
             self.run_on(*SAME, "--seed", 4, "--", "sh", "-c", text)
             found.add((self.folder / "a").read_text() + (self.folder / "b").read_text())
         self.assertEqual(len(found), 1)
+
+    def test_the_environment_is_the_same(self):
+        seed = random.randrange(1 << 64)  # no other run has it now
+        shown = [self.run_on(*SAME, "--seed", seed, "--", "env") for _ in range(4)]
+        self.assertEqual(len(set(shown)), 1)
+        self.assertNotIn(self.run_on(*SAME, "--seed", seed ^ 1, "--", "env"), shown)
+        # two runs at once have a folder each
+        held = self.begin(TKRUN, "--quiet", *SAME, "--seed", seed, "--", "sh", "-c",
+                          "echo $TKRUN; read it", stdin=subprocess.PIPE)
+        first = held.stdout.readline().strip()
+        second = self.run_on(*SAME, "--seed", seed, "--", "sh", "-c", "echo $TKRUN").strip()
+        held.communicate("\n")
+        self.assertIn(f"\nTKRUN={first}\n", "\n" + shown[0])
+        self.assertEqual((first == second, len(first)), (False, len(second)))
 
     @needs("python3")
     def test_the_hashes_of_python(self):

@@ -41,6 +41,10 @@ class Calls(RunTest):
             self.assertEqual(shown.setdefault(seed, text), text)
         self.assertNotEqual(shown[1], shown[2])
 
+    def test_who_gets_a_signal(self):
+        for seed in range(4):
+            self.assertEqual(self.run_on(*STILL, "--seed", seed, "--", program("turn_signals")), "")
+
     def test_what_a_thread_finds_at_its_turn(self):
         # it was woken by the first of several writes
         shown = {}

@@ -61,6 +61,32 @@ for step in range(400):
 print("same")
 """
 
+# sends more bytes than there is space for, and a file with them: it comes once
+FILES = """import socket, threading
+a, b = socket.socketpair()
+def send(): print(socket.send_fds(a, [bytes(500000)], [0]))
+thread = threading.Thread(target=send); thread.start()
+bytes_read = files = 0
+while bytes_read < 500000:
+    data, there, *_ = socket.recv_fds(b, 10000, 9)
+    bytes_read += len(data); files += len(there)
+thread.join(); print(bytes_read, files)
+"""
+# waits for space in spans that end at all parts of a second
+SPANS = """import select, socket, time
+listener = socket.create_server(("127.0.0.1", 0))
+out = socket.create_connection(listener.getsockname()); into = listener.accept()[0]
+out.setblocking(False)
+try:
+    while True: out.send(bytes(1 << 16))
+except BlockingIOError: pass
+poll = select.poll(); poll.register(out, select.POLLOUT)
+for _ in range(30):
+    start = time.monotonic_ns()
+    assert not poll.poll(40)
+    assert 4 * 10**7 <= time.monotonic_ns() - start < 4 * 10**7 + 1000
+"""
+
 
 class Flows(RunTest):
     def flow(self, schedule, kind, seed):
@@ -169,6 +195,16 @@ class Flows(RunTest):
             self.assertEqual(pipe_and_unix, same)
             self.assertEqual("".join("unix\n" + text for text in tcp),
                              same[same.index("unix\n"):])
+
+    def test_a_file_that_comes_with_bytes(self):
+        shown = host_call("python3", FILES)
+        self.assertEqual(shown, "500000\n500000 1\n")
+        for seed in range(SEEDS):
+            self.assertEqual(self.run_on(*STILL, "--seed", seed, "--", "python3", "-c", FILES),
+                             shown)
+
+    def test_the_time_of_a_wait_for_space(self):
+        self.assertEqual(self.run_on(*STILL, "--seed", 1, "--", "python3", "-c", SPANS), "")
 
     def test_each_call_against_a_model(self):
         addresses = [("127.0.0.1", "127.0.0.1"), ("127.0.0.1", "::ffff:127.0.0.1")]

@@ -1,0 +1,92 @@
+"""--seed: 20 runs of one seed are equal, of three servers in Python that elect leaders through
+partitions (raft.py), and of three chronyd."""
+import pathlib
+import re
+import shutil
+import unittest
+
+from links import ADDRESSES, PORT, LinkTest
+from runs import STILL, TKRUN, needs_root
+
+CHRONYD = shutil.which("chronyd", path="/usr/sbin:/sbin:/usr/bin:/bin")
+RUNS, SEEDS = 20, 4
+RAFT = pathlib.Path(__file__).with_name("raft.py")
+# each server is alone for a while, so a leader is
+ALONE = {"a": (3, 5), "b": (7, 9), "c": (11, 13)}
+SESSION = """
+    P=; i=0
+    for n in a b c; do
+        {tkrun} node $n -- python3 -B {raft} $i {port} {addresses} >$n.out 2>&1 & P="$P $!"
+        i=$((i + 1))
+    done
+    sleep 15; kill $P; wait"""
+DAEMONS = """
+    {tkrun} node a -- {daemon} -x -f {folder}/a >a.out 2>&1 & P=$!
+    for n in b c; do
+        {tkrun} node $n -- {daemon} -f {folder}/$n >$n.out 2>&1 & P="$P $!"
+    done
+    sleep 3600; kill $P; wait"""
+COMMON = "cmdport 0\nbindcmdaddress /\nclockprecision 1e-9\n"
+
+
+class Seeds(LinkTest):
+    def make(self, seed, session, *options):
+        """Runs a session on three nodes, in an empty folder. Returns the records and outputs."""
+        folder = self.folder / "run"
+        folder.mkdir()
+        run = self.start("--quiet", *STILL, "--seed", seed, "--start", 10**9, "--record",
+                         folder / "r", "--check", *options, "--", "sh", "-c",
+                         f"cd {folder}\n{session}")
+        self.assertEqual((run.returncode, run.stdout, run.stderr), (0, "", ""))
+        texts = {path.name: path.read_text() for path in sorted(folder.iterdir())}
+        self.assertEqual([*texts], [*(f"{n}.out" for n in "abc"), "r", "r.a", "r.b", "r.c",
+                                    "r.nodes"])
+        shutil.rmtree(folder)
+        return texts
+
+    def check_seeds(self, *arguments):
+        """Compares runs of one seed, and of others. Returns those of each seed."""
+        seeds = {seed: self.make(seed, *arguments) for seed in range(SEEDS)}
+        for i in range(RUNS - 1):
+            with self.subTest(i):
+                self.assertEqual(self.make(0, *arguments), seeds[0])
+        for name in ("r", "r.a", "r.b", "r.c"):
+            self.assertEqual(len({texts[name] for texts in seeds.values()}), SEEDS, name)
+        return seeds.values()
+
+    def test_servers_that_elect_leaders(self):
+        plan = self.file("plan", "".join(
+            f"at {at} {what} {name} {other}\n" for name, span in ALONE.items()
+            for at, what in zip(span, ("partition", "heal")) for other in "abc" if other != name))
+        nodes = [word for name, address in ADDRESSES.items()
+                 for word in ("--node", f"{name},address={address},error-ppm={ord(name) - 98}")]
+        links = [word for pair in ("a,b", "a,c", "b,c")
+                 for word in ("--link", f"{pair},delay=3ms,jitter=2ms")]
+        text = SESSION.format(tkrun=TKRUN, raft=RAFT, port=PORT,
+                              addresses=" ".join(ADDRESSES.values()))
+        for texts in self.check_seeds(text, *nodes, *links, "--plan", plan):
+            leaders = [(term, name) for name in "abc"
+                       for term in re.findall(r"leader (\d+)", texts[f"{name}.out"])]
+            # one in each term, and another one while the first one is alone
+            self.assertEqual(len(dict(leaders)), len(leaders))
+            self.assertGreater(len(leaders), 1)
+
+    @needs_root("runs a chronyd")
+    @unittest.skipUnless(CHRONYD, "chronyd isn't installed")
+    def test_three_chronyd(self):
+        server = ("local stratum 1\nallow 127.0.0.0/8\n"
+                  f"bindaddress {ADDRESSES['a']}\nport {PORT}\n")
+        client = ("port 0\nmakestep 0.1 3\n"
+                  f"server {ADDRESSES['a']} port {PORT} minpoll 4 maxpoll 6 iburst\n")
+        for name in "abc":
+            self.file(name, f"{COMMON}pidfile {self.folder}/{name}.pid\n"
+                            + (server if name == "a" else client))
+        nodes = [word for name, more in [("a", ""), ("b", ",error-ppm=80,ahead=2"),
+                                         ("c", ",error-ppm=-40,wander-ppm=0.01,ahead=-5")]
+                 for word in ("--node", f"{name},address={ADDRESSES[name]}{more}")]
+        links = [word for name in "bc"
+                 for word in ("--link", f"{name},a,delay=10ms,jitter=0.5ms,loss=0.01")]
+        text = DAEMONS.format(tkrun=TKRUN, folder=self.folder, daemon=f"{CHRONYD} -d -u root -F 0")
+        for texts in self.check_seeds(text, *nodes, *links):
+            for name in "bc":
+                self.assertIn("Selected source", texts[f"{name}.out"])
