@@ -5,7 +5,9 @@ use std::sync::atomic::{AtomicU64, Ordering};
 use std::test::Fail;
 use std::thread::{Threads, join};
 use std::time::Instant;
-use tk_now::{HostCounter, Notice, NoticeReader, NoticeWriter, SharedTicker, Timed};
+use tk_now::{
+    HostCounter, Look, Notice, NoticeReader, NoticeWriter, SharedCounter, SharedTicker, Timed,
+};
 
 /// The number of commands, of which every third is refused.
 const COMMANDS: u64 = 100_000;
@@ -151,6 +153,17 @@ fn a_place_is_the_number_of_accepted_commands(rt: HostRuntime) -> Result<(), Fai
             })
     );
     writer.take_in(&notice, reader);
+    Ok(())
+}
+
+#[test]
+fn a_peek_shows_the_next_reading(rt: HostRuntime) -> Result<(), Fail> {
+    let counter = SharedTicker::new(10, 5);
+    let look = Look::first(rt.alloc())?;
+    for reading in [10, 15, 20] {
+        assert!(rt; counter.peek(&look) == reading && counter.peek(&look) == reading);
+        assert!(rt; counter.read(&look) == reading);
+    }
     Ok(())
 }
 
