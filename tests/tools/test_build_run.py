@@ -17,9 +17,10 @@ class BuildRun(Case):
     def setUp(self):
         super().setUp()
         self.top = self.copy("include")
-        archive = self.top / "dist/lib/libtkcore.a"
-        archive.parent.mkdir(parents=True)
-        archive.touch()
+        self.archives = [self.top / f"dist/lib/lib{it}.a" for it in ("tkcore", "tkcore_session")]
+        self.archives[0].parent.mkdir(parents=True)
+        for archive in self.archives:
+            archive.touch()
 
     def fails(self, sentence, machine="x86_64-linux-gnu", glibc=OLD, optional_too=True):
         """It fails with this sentence, with --optional only if that is for no other C library."""
@@ -48,9 +49,10 @@ class BuildRun(Case):
                    optional_too=False)
 
     def test_a_missing_library_is_one_sentence(self):
-        archive = self.top / "dist/lib/libtkcore.a"
-        archive.unlink()
-        self.fails(f"{archive} isn't there; make assembles it, and tools/build_c proves it")
+        for archive in self.archives:
+            archive.unlink()
+            self.fails(f"{archive} isn't there; make assembles it, and tools/build_c proves it")
+            archive.touch()
 
     def test_help_is_printed_and_other_arguments_are_refused(self):
         for word in "--help", "-h":
