@@ -57,7 +57,7 @@ class FileTimes(RunTest):
         self.begin("sh", "-c", f"while echo >{self.folder}/exact; do read -r _ </dev/null; "
                    f"test {self.folder}/exact -nt {self.folder}/old; done")
         for _ in range(4):
-            self.check_program(["--file-times", "--start", 10**9, "--speed", 20])
+            self.check_program(["--file-times", "--start", 10**9, "--speed", 5])
 
     def test_the_times_are_the_hosts_without_it(self):
         before = int(time.time())
