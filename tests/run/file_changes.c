@@ -169,6 +169,7 @@ static void set_clock(void)
 	put("3", "");
 	third = of("3");
 	CHECK(is_now(third.st_mtim) && third.st_mtim.tv_sec < 101000);
+	CHECK(third.st_mtim.tv_sec >= early.tv_sec);
 	CHECK(adjtimex(&offset) >= 0);
 	put("4", "");
 	CHECK(is_now(of("4").st_mtim) && of("4").st_mtim.tv_sec >= 105000);
