@@ -4,7 +4,9 @@ It uses only documented interfaces: `rt version` and `rt doc`, the toolchain's f
 flags that `rattle build --help`, `rattle check --help` and `rattle-link` list. Any toolchain of the
 logic LOGIC serves; as a program, `rattle.py TOOL` ends with status 2 if the logic is another.
 """
+import contextlib
 import dataclasses
+import fcntl
 import functools
 import os
 import pathlib
@@ -130,14 +132,31 @@ class Crate:
     def archive(self, libraries, backend, target, made):
         """Compiles a static library into the archive `made`. Proves it once for each target in a
         folder of libraries, for both backends."""
-        target, checked = f"--target={target}", libraries / f"{self.name}.{target}.checked"
+        checked = libraries / f"{self.name}.{target}.checked"
         if not self.is_newer(checked):
             # (each process more would load the libraries again)
-            status, said = self.run("check", libraries, "--jobs=1", target, f"-o={checked}")
+            status, said = self.run("check", libraries, "--jobs=1", f"--target={target}",
+                                    f"-o={checked}")
             if status:
                 return status, said
-        return self.run("build", libraries, f"--crate-checked={checked}", f"--backend={backend}",
-                        target, f"--toolchain={kit() / 'toolchain'}", f"-o={made}")
+        return self.compile(libraries, backend, target, made, f"--crate-checked={checked}")
+
+    @contextlib.contextmanager
+    def kept(self, libraries):
+        """Gives the argument by which rattle keeps what it proves of the crate in a folder of
+        libraries, where it serves each target and backend. One run at a time works there."""
+        with (libraries / f"{self.name}.lock").open("w", encoding="utf-8") as lock:
+            fcntl.flock(lock, fcntl.LOCK_EX)
+            yield f"--incremental={libraries / self.name}.kept"
+
+    def archive_over(self, libraries, backend, target, made):
+        """Proves a static library over what is kept, and compiles it into the archive `made`."""
+        with self.kept(libraries) as kept:
+            return self.compile(libraries, backend, target, made, "--jobs=1", kept)
+
+    def compile(self, libraries, backend, target, made, *more):
+        return self.run("build", libraries, *more, f"--backend={backend}", f"--target={target}",
+                        f"--toolchain={kit() / 'toolchain'}", f"-o={made}")
 
     def verdict(self, libraries):
         """Returns the file in which `prove` keeps the line of the prover's verdict."""

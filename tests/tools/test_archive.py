@@ -1,4 +1,8 @@
-"""How often a library for C and those below it are proved for the archives of both backends."""
+"""How a library for C and those below it are proved for the archives of both backends."""
+import fcntl
+import time
+from concurrent import futures
+
 from tools import LOGIC, Case
 
 # writes what -o names, and a line into the file calls: the command, the crate and some arguments
@@ -9,7 +13,7 @@ for word; do
     --crate-name=*) name=${word#*=} ;;
     --crate-type=*|--backend=*|--target=*) more="$more $word" ;;
     --logic-built=*) more="$more logic" ;;
-    --crate-checked=*) [ -d "${word#*=}" ] && more="$more checked" ;;
+    --incremental=*) more="$more over ${word##*/}" ;;
     -o=*) made=${word#*=} ;;
     esac
 done
@@ -43,26 +47,33 @@ class Archive(Case):
         self.assertEqual("", errors)
         return status, said, calls.read_text(encoding="utf-8").splitlines()
 
-    def test_each_crate_is_proved_once_for_both_backends(self):
-        static = "tk_c --crate-type=staticlib"
-        first = ["build low logic", f"check {static} --target=a-target logic",
-                 f"build {static} checked --backend=llvm --target=a-target"]
+    def test_both_backends_share_what_is_proved(self):
+        static = "tk_c --crate-type=staticlib over tk_c.kept"
+        first = ["build low logic", f"build {static} --backend=llvm --target=a-target logic"]
         self.assertEqual((0, first), self.made("llvm")[::2])
-        self.assertEqual((0, [f"build {static} checked --backend=rattle --target=a-target"]),
+        self.assertEqual((0, [f"build {static} --backend=rattle --target=a-target logic"]),
                          self.made("rattle")[::2])
         for name in "llvm.a", "rattle.a":
             self.assertTrue((self.room / name).is_file())
 
     def test_another_crate_may_be_named(self):
-        static = "other --crate-type=staticlib"
-        self.assertEqual((0, [f"check {static} --target=a-target logic",
-                              f"build {static} checked --backend=llvm --target=a-target"]),
+        static = "other --crate-type=staticlib over other.kept"
+        self.assertEqual((0, [f"build {static} --backend=llvm --target=a-target logic"]),
                          self.made("llvm", "none", "other")[::2])
 
-    def test_a_change_is_proved_anew(self):
-        self.made("llvm")
-        (self.top / "crates" / "tk_c" / "src" / "lib.rt").write_text("\n\n", encoding="utf-8")
-        self.assertEqual(["check", "build"], [it.split()[0] for it in self.made("rattle")[2]])
+    def test_a_second_run_waits(self):
+        kept = self.room / "kept"
+        kept.mkdir()
+        with (kept / "tk_c.lock").open("w", encoding="utf-8") as lock:
+            fcntl.flock(lock, fcntl.LOCK_EX)
+            with futures.ThreadPoolExecutor() as pool:
+                made = pool.submit(self.made, "llvm")
+                while not (kept / "low.rlib").exists() and not made.done():
+                    time.sleep(0.01)
+                with self.assertRaises(futures.TimeoutError):
+                    made.result(0.5)
+                fcntl.flock(lock, fcntl.LOCK_UN)
+                self.assertEqual(2, len(made.result()[2]))
 
     def test_no_archive_is_made_of_a_crate_that_is_not_proved(self):
         for broken in "low", "tk_c":

@@ -167,7 +167,9 @@ class Release(Case):
         self.assertEqual((0, "", ""), self.run_release(*words))
         crate, command, _, *given = built.call_args[0]
         self.assertEqual(("tkcore", "build"), (crate.name, command))
-        self.assertEqual([f"--target={machine}-unknown-linux-gnu", f"--cpu={cpu}"], given[1:3])
+        kept = self.room / "kept" / "tkcore.kept"
+        self.assertEqual([f"--target={machine}-unknown-linux-gnu", f"--cpu={cpu}",
+                          f"--incremental={kept}"], given[1:-1])
         self.assertEqual(1, text.count(number))
         other = number.replace("7", "8")
         path = self.write_program(gzip.compress(text.replace(number, other).encode()), machine)
@@ -199,7 +201,7 @@ class Release(Case):
                                       for it in names])
         self.assertEqual([["--target=x86_64-unknown-linux-gnu", "--cpu=x86-64"],
                           ["--target=aarch64-unknown-linux-gnu", "--cpu=generic"]],
-                         [list(it[0][4:6]) for it in built.call_args_list])
+                         [list(it[0][4:-1]) for it in built.call_args_list])
 
     def test_many_differences_of_a_program_are_cut(self):
         _, text = self.stand_in_for_the_program("".join(f"int f{it}(void) {{ return 71; }}\n"

@@ -3,9 +3,9 @@
 
     tools/c/archive.py LIBRARIES llvm|rattle TARGET ARCHIVE [CRATE]
 
-The proved libraries below the crate (tk_c) are in the folder LIBRARIES, or are built there. The crate
-is proved there once for each target, for both backends. It ends with status 1 if a crate isn't
-proved.
+The proved libraries below the crate (tk_c) are in the folder LIBRARIES, or are built there. What is
+proved of the crate stays there too, so that each target and backend after the first takes less. It
+ends with status 1 if a crate isn't proved.
 """
 import pathlib
 import sys
@@ -20,7 +20,7 @@ def main(libraries, backend, target, archive, name="tk_c"):
     libraries.mkdir(parents=True, exist_ok=True)
     if not rattle.build_all(crate.below, libraries):
         return 1
-    status, said = crate.archive(libraries, backend, target, pathlib.Path(archive).resolve())
+    status, said = crate.archive_over(libraries, backend, target, pathlib.Path(archive).resolve())
     print(said)
     return 1 if status else 0
 

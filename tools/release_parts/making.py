@@ -113,13 +113,13 @@ def program_of(machine):
     return f"{machine}/program.s.gz"
 
 
-def compiled_program(libraries, machine, made):
-    """Proves and compiles the program for a machine into an object file. Returns the line of the
-    verdict."""
+def compiled_program(libraries, machine, made, *more):
+    """Proves and compiles the program for a machine into an object file, with more of rattle's
+    arguments. Returns the line of the verdict."""
     crate = rattle.crates()["tkcore"]
     built = crate.run("build", libraries, f"--toolchain={rattle.kit() / 'toolchain'}",
                       f"--target={machine}-unknown-linux-gnu", f"--cpu={FIRST[machine]}",
-                      f"-o={made}")
+                      *more, f"-o={made}")
     return verdict_of(crate, *built)
 
 
@@ -151,7 +151,8 @@ def differences_of_program(libraries, machine, packed):
     with tempfile.TemporaryDirectory() as room:
         made, text = pathlib.Path(room, "tkcore.o"), pathlib.Path(room, "program.s")
         text.write_bytes(run("gzip", "-dc", packed))
-        compiled_program(libraries, machine, made)
+        with rattle.crates()["tkcore"].kept(libraries) as kept:
+            compiled_program(libraries, machine, made, kept)
         try:
             release_text("--compare", made, text)
         except Failed as failed:
