@@ -1,6 +1,6 @@
 #!/usr/bin/env python3
-"""Runs random orders through the program of `crates/tk_ntp_tests` and through the definitions of the
-discipline in unbounded integers, and stops at the first answer that differs.
+"""Runs random orders through the program of `crates/tk_ntp_orders` and through the definitions of
+the discipline in unbounded integers, and stops at the first answer that differs.
 
     tests/model/ntp.py PROGRAM [COUNT [SEED]]     COUNT is the number of orders, 100,000 if not given
     tests/model/ntp.py < orders                   writes the answers to these orders

@@ -2,7 +2,7 @@
 """The definitions of pulse per second in unbounded integers: a signal's state, what a pulse makes of it and
 of a discipline, and what a reply reports (kernel/time/ntp.c with CONFIG_NTP_PPS).
 
-    tests/model/pps.py PROGRAM [COUNT [SEED]]     compares the program of crates/tk_ntp_tests with them
+    tests/model/pps.py PROGRAM [COUNT [SEED]]     compares the program of crates/tk_ntp_orders with them
     tests/model/pps.py < orders                   writes the answers to these orders
 
 `tests/kernel_ntp/compare_pps.py` compares them with the kernel's own code. The orders are those of ntp.py and

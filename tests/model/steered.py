@@ -1,6 +1,6 @@
 #!/usr/bin/env python3
-"""Runs random orders to steered clocks through the program of `crates/tk_ntp_tests` and through their
-definitions in unbounded integers, and stops at the first answer that differs.
+"""Runs random orders to steered clocks through the program of `crates/tk_ntp_orders` and through
+their definitions in unbounded integers, and stops at the first answer that differs.
 
     tests/model/steered.py PROGRAM [COUNT [SEED]]     COUNT is the number of orders, 20,000 if not given
     tests/model/steered.py < orders                   writes the answers to these orders

@@ -4,7 +4,6 @@ ghost use Rattle.std.specs.Prelude.{◌+◌, ◌/◌, ◌<◌, ◌^◌};
 use super::assert_same;
 use std::cell::Cell;
 use std::io;
-use std::test::Fail;
 use std::time::{Clock, Duration, Instant};
 use tk_now::{HostCounter, Look, SharedCounter};
 
@@ -68,17 +67,16 @@ fn rows() -> [Row; 8] {
 }
 
 #[test]
-fn a_reading_is_the_nanoseconds_since_the_start(rt: HostRuntime) -> Result<(), Fail> {
+fn a_reading_is_the_nanoseconds_since_the_start(rt: HostRuntime) {
     for (first, second, wanted) in rows() {
         let clock = Times {
             first,
             second,
             is_read: Cell::new(false),
         };
-        let start = Instant::now(&clock)?;
+        let start = Instant::now(&clock).expect(&rt, "a time");
         let counter = HostCounter::new(&clock, start);
-        let look = Look::first(rt.alloc())?;
+        let look = Look::first(rt.alloc()).expect(&rt, "memory");
         assert_same(&rt, &counter.read(&look), &wanted);
     }
-    Ok(())
 }

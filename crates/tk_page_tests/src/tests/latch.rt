@@ -5,9 +5,12 @@ mod openings;
 mod publications;
 mod threads;
 
+ghost use Rattle.std.specs.Prelude.{◌≡◌};
+
 use super::assert_same;
-use std::test::Fail;
+use std::process::Abort;
 use tk_clock::{Clock, Snapshot};
+use tk_latch::{Latch, LatchReader};
 use tk_test_support::{OPENED_REAL, OPENED_TIME, OPENED_WORDS, nanosecond_counter};
 
 /// The words after an Update at reading 100.
@@ -39,6 +42,16 @@ const TAI_WORDS: [u64; 10] = [
 ];
 
 /// Returns its clocks, opened at reading 0, with REALTIME at 1,700,000,000 s.
-fn opened() -> Result<Clock, Fail> {
-    Ok(Clock::open(nanosecond_counter()?, 0, OPENED_TIME)?)
+fn opened(rt: &impl Abort) -> Clock {
+    let desc = nanosecond_counter().expect(rt, "a counter");
+    Clock::open(desc, 0, OPENED_TIME).expect(rt, "clocks")
+}
+
+/// Reads a latch in which nobody publishes, and returns the words and the mark.
+fn words_and_mark(latch: &Latch, reader: &mut LatchReader) -> Option<([u64; 10], u64)>
+    requires { reader.old.latch ≡ latch.now }
+    ensures { reader.new.latch ≡ reader.old.latch }
+{
+    let snapshot = reader.try_read(latch).ok()?;
+    Some((snapshot.words(), reader.mark()))
 }

@@ -2,7 +2,6 @@
 ghost use Rattle.std.specs.Prelude.{◌≡◌, None, length};
 
 use std::sync::atomic::{AtomicU64, Ordering};
-use std::test::Fail;
 use std::thread::{Threads, join};
 use std::time::Instant;
 use tk_now::{
@@ -95,10 +94,10 @@ fn takes_beside<R: Threads + Sync>(
 }
 
 #[test]
-fn readings_never_fall_while_commands_are_given(rt: HostRuntime) -> Result<(), Fail> {
+fn readings_never_fall_while_commands_are_given(rt: HostRuntime) {
     let counter = SharedTicker::new(1, 1);
     let (latest, greatest) = (AtomicU64::new(0), AtomicU64::new(0));
-    let (notice, mut writer) = Notice::open(rt.alloc(), 0)?;
+    let (notice, mut writer) = Notice::open(rt.alloc(), 0).expect(&rt, "memory");
     let one = notice.reader(&mut writer);
     let other = notice.reader(&mut writer);
     let (notice, counter, latest, greatest) = (&notice, &counter, &latest, &greatest);
@@ -114,13 +113,12 @@ fn readings_never_fall_while_commands_are_given(rt: HostRuntime) -> Result<(), F
         { takes_beside(rt, notice, one, other, counter, latest, greatest) },
     );
     assert!(rt; given && taken);
-    Ok(())
 }
 
 #[test]
-fn a_place_is_the_number_of_accepted_commands(rt: HostRuntime) -> Result<(), Fail> {
+fn a_place_is_the_number_of_accepted_commands(rt: HostRuntime) {
     let counter = SharedTicker::new(10, 5);
-    let (notice, mut writer) = Notice::open(rt.alloc(), 10)?;
+    let (notice, mut writer) = Notice::open(rt.alloc(), 10).expect(&rt, "memory");
     let mut reader = notice.reader(&mut writer);
     let opened = reader.time(&notice, &counter);
     assert!(rt;
@@ -153,34 +151,29 @@ fn a_place_is_the_number_of_accepted_commands(rt: HostRuntime) -> Result<(), Fai
             })
     );
     writer.take_in(&notice, reader);
-    Ok(())
 }
 
 #[test]
-fn a_peek_shows_the_next_reading(rt: HostRuntime) -> Result<(), Fail> {
+fn a_peek_shows_the_next_reading(rt: HostRuntime) {
     let counter = SharedTicker::new(10, 5);
-    let look = Look::first(rt.alloc())?;
+    let look = Look::first(rt.alloc()).expect(&rt, "memory");
     for reading in [10, 15, 20] {
         assert!(rt; counter.peek(&look) == reading && counter.peek(&look) == reading);
         assert!(rt; counter.read(&look) == reading);
     }
-    Ok(())
 }
 
 #[test]
-fn the_hosts_clock_advances(rt: HostRuntime) -> Result<(), Fail> {
-    let start = Instant::now(&rt)?;
+fn the_hosts_clock_advances(rt: HostRuntime) {
+    let start = Instant::now(&rt).expect(&rt, "a time");
     let counter = HostCounter::new(&rt, start);
-    let (notice, mut writer) = Notice::open(rt.alloc(), 0)?;
+    let (notice, mut writer) = Notice::open(rt.alloc(), 0).expect(&rt, "memory");
     let mut reader = notice.reader(&mut writer);
     let mut before = 0;
     for _ in 0..1000 {
-        let Ok(timed) = reader.time(&notice, &counter) else {
-            return Err("a reading".into());
-        };
+        let timed = reader.time(&notice, &counter).expect(&rt, "a reading");
         assert!(rt; before <= timed.reading);
         before = timed.reading;
     }
     assert!(rt; 0 < before && before < 60_000_000_000);
-    Ok(())
 }

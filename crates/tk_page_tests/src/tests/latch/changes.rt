@@ -1,9 +1,9 @@
 //! Tests publications that change some of the words: only the front, the front and one other word,
 //! and all words.
-ghost use Rattle.std.specs.Prelude.{◌≡◌, ◌≤◌, length, slice_index, suc, true, IfOk, IfSome};
+ghost use Rattle.std.specs.Prelude.{◌≡◌, ◌≤◌, length, slice_index, suc, true, IfSome};
 
-use super::{OPENED_REAL, nanosecond_counter};
-use std::test::Fail;
+use super::{OPENED_REAL, assert_same, nanosecond_counter};
+use std::process::Abort;
 use tk_clock::Snapshot;
 use tk_counter::CounterDesc;
 use tk_latch::{Latch, LatchReader, LatchWriter};
@@ -56,13 +56,12 @@ pub(super) fn publication(desc: CounterDesc, number: u64) -> Option<Snapshot>
 }
 
 /// Returns the counter, and the publication at the opening.
-pub(super) fn opening() -> Result<(CounterDesc, Snapshot), Fail>
-    ensures { IfOk result (λ opening.
-        (opening.1.front ≡ 0) × (opening.1.base.counter ≡ opening.0)) }
+pub(super) fn opening(rt: &impl Abort) -> (CounterDesc, Snapshot)
+    ensures { (result.1.front ≡ 0) × (result.1.base.counter ≡ result.0) }
 {
-    let desc = nanosecond_counter()?;
-    let snapshot = publication(desc, 0).ok_or("the opening")?;
-    Ok((desc, snapshot))
+    let desc = nanosecond_counter().expect(rt, "a counter");
+    let snapshot = publication(desc, 0).expect(rt, "the opening");
+    (desc, snapshot)
 }
 
 /// Returns the number of words in which the publication with a number differs from the one before.
@@ -134,12 +133,12 @@ fn reads_each(
 }
 
 #[test]
-fn each_changed_word_is_published(rt: HostRuntime) -> Result<(), Fail> {
-    let (desc, opening) = opening()?;
-    let (latch, writer, mut readers) = Latch::open(rt.alloc(), opening, 1)?;
-    let reader = readers.pop().ok_or("a reader")?;
+fn each_changed_word_is_published(rt: HostRuntime) {
+    let (desc, opening) = opening(&rt);
+    let opened = Latch::open(rt.alloc(), opening, 1);
+    let (latch, writer, mut readers) = opened.expect(&rt, "a latch");
+    let reader = readers.pop().expect(&rt, "a reader");
     assert!(rt; reads_each(&latch, writer, reader, desc));
-    Ok(())
 }
 
 #[test]
@@ -153,6 +152,6 @@ fn the_publications_change_one_word_two_words_or_all(rt: HostRuntime) {
         (999, 2),
         (1_000, 10),
     ] {
-        assert_eq!(rt; differences(number), count, "publication {number}");
+        assert_same(&rt, &(number, differences(number)), &(number, count));
     }
 }

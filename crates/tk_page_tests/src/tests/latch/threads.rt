@@ -2,7 +2,6 @@ ghost use Rattle.std.specs.Prelude.{◌≡◌, length, All};
 ghost use Rattle.std.specs.Thread.{IsSync};
 
 use super::changes::{PUBLICATIONS, opening, publishes, words_at};
-use std::test::Fail;
 use std::thread::{Threads, join, map_vec};
 use tk_counter::CounterDesc;
 use tk_latch::{Latch, LatchReader, LatchWriter, Moved};
@@ -86,9 +85,9 @@ fn race<R: Threads + Sync>(
 }
 
 #[test]
-fn three_readers_beside_a_writer_read_whole_publications(rt: HostRuntime) -> Result<(), Fail> {
-    let (desc, opening) = opening()?;
-    let (latch, writer, readers) = Latch::open(rt.alloc(), opening, 3)?;
+fn three_readers_beside_a_writer_read_whole_publications(rt: HostRuntime) {
+    let (desc, opening) = opening(&rt);
+    let opened = Latch::open(rt.alloc(), opening, 3);
+    let (latch, writer, readers) = opened.expect(&rt, "a latch");
     assert!(rt; race(&rt, &latch, writer, desc, readers));
-    Ok(())
 }

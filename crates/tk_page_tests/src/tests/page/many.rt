@@ -5,7 +5,6 @@ use super::{OPENED_REAL, assert_same};
 use std::process::Abort;
 use std::sync::Wait;
 use std::sync::atomic::{AtomicBool, Ordering};
-use std::test::Fail;
 use std::thread::{self, Threads, join};
 use tk_clock::Command;
 use tk_page::{Page, Viewer};
@@ -127,8 +126,8 @@ fn publish_beside<R: Threads + Wait + Abort + Sync>(
 }
 
 #[test]
-fn readers_see_whole_publications_while_they_are_made(rt: HostRuntime) -> Result<(), Fail> {
-    let (page, desk, viewer) = opened_page(&rt, rt.alloc()).ok_or("no page")?;
+fn readers_see_whole_publications_while_they_are_made(rt: HostRuntime) {
+    let (page, desk, viewer) = opened_page(&rt, rt.alloc()).expect(&rt, "a page");
     let (one, others) = viewer.split(&page);
     let (two, three) = others.split(&page);
     let (host, shared) = (&rt, &page);
@@ -150,7 +149,6 @@ fn readers_see_whole_publications_while_they_are_made(rt: HostRuntime) -> Result
     );
     let joined = one.join(two, &page).join(three, &page);
     assert_same(&rt, &joined.front(), &ALL);
-    Ok(())
 }
 
 /// Publishes without a pause until `enough` is set.
@@ -180,8 +178,8 @@ fn read_enough<R: Wait + Abort>(rt: &R, page: &Page, viewer: Viewer, enough: &At
 }
 
 #[test]
-fn reads_end_beside_a_publisher_that_goes_on(rt: HostRuntime) -> Result<(), Fail> {
-    let (page, desk, viewer) = opened_page(&rt, rt.alloc()).ok_or("no page")?;
+fn reads_end_beside_a_publisher_that_goes_on(rt: HostRuntime) {
+    let (page, desk, viewer) = opened_page(&rt, rt.alloc()).expect(&rt, "a page");
     let enough = AtomicBool::new(false);
     let (host, shared, enough) = (&rt, &page, &enough);
     join(
@@ -193,5 +191,4 @@ fn reads_end_beside_a_publisher_that_goes_on(rt: HostRuntime) -> Result<(), Fail
             requires { viewer.page ≡ shared.now }
         { read_enough(host, shared, viewer, enough) },
     );
-    Ok(())
 }
