@@ -42,9 +42,19 @@ async function checkPlaces(browser, name, text) {
     require(JSON.stringify(tops) === JSON.stringify(lines), `${name}: rows at ${tops}`);
 }
 
+/** Chooses an example in the page's list. */
+async function choose(browser, name) {
+    await browser.value(`{ const list = document.getElementById('examples');
+        list.value = [...list.options].findIndex(it => it.text === '${name.replaceAll('-', ' ')}');
+        list.dispatchEvent(new Event('change')); 0 }`);
+    await browser.until(SETTLED);
+}
+
 async function checkExample(browser, name) {
     const text = fs.readFileSync(`${DATA}${name}.csv`, 'utf8').replaceAll(/\r\n?/g, '\n');
-    await runScript(browser, text);
+    await choose(browser, name);
+    const shown = await browser.value(`document.getElementById('script').value`);
+    require(shown === text, `${name}: the list has another script: ${shown}`);
     const report = `${DATA}${name}.report`, rows = await browser.value(ROWS);
     if (!fs.existsSync(report)) {
         const fault = fs.readFileSync(`${DATA}${name}.fault`, 'utf8').trim().replace('tkcore: ', '');
@@ -207,7 +217,7 @@ async function check(browser, page) {
     await browser.open(url, 1440, 2400);
     const names = fs.readdirSync(DATA).map(it => path.parse(it)).filter(({ name, ext }) =>
         ext === '.report' || ext === '.fault' && !fs.existsSync(`${DATA}${name}.stamps`));
-    for (const { name } of names)
+    for (const { name } of names) // (compare.py makes the reports of the others)
         await checkExample(browser, name);
     await checkVerdict(browser);
     await checkCursor(browser);

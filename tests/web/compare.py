@@ -48,8 +48,8 @@ def answers(given, scripts, whose):
     return [tuple(json.loads(line)) for line in ran.stdout.splitlines()]
 
 
-def examples():
-    """Yields each numbered script with its stored report or fault."""
+def examples(given):
+    """Yields each numbered script with its stored report or fault. tkcore makes that of a script for a trace."""
     for path in sorted(DATA.glob("*.csv")):
         report, fault = path.with_suffix(".report"), path.with_suffix(".fault")
         if report.exists():
@@ -57,6 +57,8 @@ def examples():
             yield path.read_bytes(), (3 if "\ndiffers," in text else 0, text, "")
         elif fault.exists() and not path.with_suffix(".stamps").exists():
             yield path.read_bytes(), (1, "", fault.read_text(encoding="utf-8"))
+        else:
+            yield path.read_bytes(), wanted_of(given, path.read_bytes())
 
 
 def wanted_of(given, script):
@@ -226,7 +228,7 @@ def main():
     read.add_argument("--long", action="store_true")
     given = read.parse_args()
     rng = random.Random(given.seed)
-    pairs = list(examples())
+    pairs = list(examples(given))
     count = len(pairs)
     for script, fault in faulty():
         if fault:
