@@ -7,8 +7,9 @@ const LF = 10, CR = 13;
 export class Fault extends Error {}
 
 /**
- * Returns the records of a script without quotes: the bytes at which each of them starts and ends,
- * and its line, from 0. A line ends with LF, CRLF or CR. Empty lines are no records.
+ * Returns the records of a script in which no field contains a line end: the bytes at which each of
+ * them starts and ends, and its line, from 0. A line ends with LF, CRLF or CR. Empty lines are no
+ * records.
  */
 export function recordsOf(bytes) {
     if (bytes.length > SCRIPT_MOST)

@@ -1,5 +1,6 @@
 /* SPDX-License-Identifier: MIT OR Apache-2.0 */
 /* report.js - makes the report of a script with its session: the lines that tkcore writes. */
+import { withoutQuotes } from './quotes.js';
 import { recordsOf } from './records.js';
 import { Session } from './session.js';
 
@@ -12,12 +13,14 @@ export function utcText({ sec, nsec }) {
     return `${text}.${String(nsec).padStart(9, '0')}Z`;
 }
 
-/** A script without quotes, and its session. */
+/** A script, and its session. A record with quotes that its fields need isn't a plain line. */
 export class Script {
     /** Throws the fault of a script that is too large or has no record. */
     constructor(module, bytes) {
-        this.records = recordsOf(bytes);
-        this.session = new Session(module, bytes);
+        const plain = withoutQuotes(bytes, recordsOf(bytes));
+        this.bytes = plain.bytes;
+        this.records = plain.records;
+        this.session = new Session(module, plain.bytes);
     }
 
     /**

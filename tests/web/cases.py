@@ -1,4 +1,5 @@
-"""Scripts for the page: edges, each fault of docs/TKCORE.md, and full journals."""
+"""Scripts for the page: edges, each fault of docs/TKCORE.md, full journals, and more quotes."""
+import re
 
 MARK = b"\xef\xbb\xbf"  # of the order of bytes
 OPEN = b"open,32,16777216,24,0,1700000000,0\n"
@@ -36,14 +37,22 @@ CHANGED = OPEN + b"update,5\ncounter,2000000000,64,8388608,20,77\nupdate,1000\ng
 # an offset gives each second one command, and a second begins before each read
 SLEWED = STEERED + b"adjtimex,0,8209,1000000,0,0,0,1,0,0,0,0\n" + b"".join(
     b"get,%d,realtime\n" % (10**9 * half // 2) for half in range(3, 17, 2))
+# all fields in quotes; some fields, with each line end and without one at the end
+QUOTED = [
+    b"".join(b'"%s"\n' % record.replace(b",", b'","') for record in READS.splitlines()),
+    MARK + b'"open",8,256,0,0,"0",0\r\n\r\n"update",1\r"get",2,"tai","2"',
+    b'\nopen,8,256,0,0,0,"0"\r\n"counter",1,64,"8388608",20,"7"\r\nget,"8","tai"\r\n',
+]
 EDGES = [
     *[SLEWED] * 4,
     *[READS] * 4,  # (each fourth script is drawn)
+    *[QUOTED[0]] * 4,
     *[CHANGED] * 4,
     *[MANY] * 4,
     *[PLACELESS] * 4,
     *[OVERDUE] * 4,
     *[MARKED] * 4,
+    *QUOTED[1:],
     # the greatest front, and one more
     *(MARKED.replace(b",5,2597764268", b",%d,2597764268" % front) for front in (2**62, 2**62 + 1)),
     # a cycle lasts two seconds, in which an offset gives each second another rate
@@ -86,9 +95,23 @@ def faulty():
     yield b"\n\r\n\r", "no record"
     yield MARK, "no record"
     yield MARK + MARK + OPEN, "record 1: not a plain line"
-    yield OPEN + b'get,1,"tai"\n', "record 2: not a plain line"
+    yield from in_quotes()
     yield (OPEN + b"update,").ljust(16_777_215, b"0") + b"x", "record 2: not a number in range"
     yield b"\n" * 16_777_217, "larger than 16777216 bytes"
+
+
+def in_quotes():
+    """Yields scripts with each fault in a record with quotes, and its text."""
+    for record in (b'get,1,"tai,2"', b'get,1,"t""ai"', b'get,1,"tai"2', b'get,1,tai"', b'get,1,"tai',
+                   b'get,1,"tai\n"', b'get,1, "tai"', b'""', b'# a "note"'):
+        yield OPEN + b'"update",1\r\n' + record + b"\nupdates\n", "record 3: not a plain line"
+    for record, text in [
+            (b'"updates",1', "unknown word"), (b'"",1', "unknown word"), (b'#,"note"', "unknown word"),
+            (b'update,""', "not a number in range"), (b'update," 1"', "not a number in range"),
+            (b'update,"1",""', "wrong number of fields")]:
+        yield OPEN + b'"update",1\n' + record + b"\n", f"record 3: {text}"
+    yield b'"open,8,256,0,0,0,0\n', "record 1: not a plain line"
+    yield b'"",8,256,0,0,0,0\n', "record 1: not a valid opening"
 
 
 def full():
@@ -103,3 +126,13 @@ def full():
         b"get,3000000000,tai\nsuspend,3000000001\nresume,1,0,0\n", [
             "open,64,8388608,23", *accepted[:most - 3], "no,full", accepted[most - 3], "no,full",
             "at,tai,1483228800.000000000", "no,full", "no,full"]
+
+
+def with_quotes(rng, script):
+    """Returns a script with quotes around a field, or now and then with a quote at any place."""
+    if rng.random() < 0.2:
+        place = rng.randrange(len(script) + 1)
+        return script[:place] + b'"' + script[place:]
+    parts = re.split(rb"([,\r\n]+)", script)
+    place = rng.choice([i for i in range(0, len(parts), 2) if parts[i]])
+    return b"".join(parts[:place] + [b'"%s"' % parts[place]] + parts[place + 1:])

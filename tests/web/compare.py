@@ -4,8 +4,8 @@ random scripts, by the program or by the definitions in Python.
 
     tests/web/compare.py FOLDER [--program TKCORE] [--scripts N] [--seed SEED] [--node FLAG] [--long]
 
-FOLDER has tkcore.wasm and session.wasm. The page takes no quotes: it must have a fault for the record.
-With --long, the journal of steered clocks is filled too, which takes a minute. It stops at the first
+FOLDER has tkcore.wasm and session.wasm. The page must have a fault for the first record that needs its
+quotes. A tenth of the random scripts gets more quotes than the generator of scripts writes. With --long, the journal of steered clocks is filled too, which takes a minute. It stops at the first
 report, fault or status that differs, at the first cursor of the page that shows other times than these
 reads in a script, and where the page says something else of the reads.
 """
@@ -26,7 +26,7 @@ sys.path.insert(0, str(TOP / "tests" / "model"))
 import compare
 import model
 import readers
-from cases import EDGES, MARK, faulty, full
+from cases import EDGES, MARK, faulty, full, with_quotes
 
 DATA = TOP / "crates" / "tk_examples" / "data"
 SECONDS = 1800  # the longest that node may take for all scripts, on a busy machine
@@ -48,8 +48,8 @@ def answers(given, scripts, whose):
     return [tuple(json.loads(line)) for line in ran.stdout.splitlines()]
 
 
-def examples():
-    """Yields each numbered script with its stored report or fault."""
+def examples(given):
+    """Yields each numbered script with its stored report or fault. tkcore makes that of a script for a trace."""
     for path in sorted(DATA.glob("*.csv")):
         report, fault = path.with_suffix(".report"), path.with_suffix(".fault")
         if report.exists():
@@ -57,6 +57,8 @@ def examples():
             yield path.read_bytes(), (3 if "\ndiffers," in text else 0, text, "")
         elif fault.exists() and not path.with_suffix(".stamps").exists():
             yield path.read_bytes(), (1, "", fault.read_text(encoding="utf-8"))
+        else:
+            yield path.read_bytes(), wanted_of(given, path.read_bytes())
 
 
 def wanted_of(given, script):
@@ -65,15 +67,21 @@ def wanted_of(given, script):
     return compare.wanted(model.replay, script)
 
 
-def page_of(given, script, wanted=None):
-    """Returns the page's answer to a script, for which tkcore has this one: a session takes no quotes,
-    and no first record with a byte of a mark."""
+def needs_quotes(record):
+    """Whether a record has other quotes than around fields without a comma, a quote and a line end, or would
+    be an empty line without them."""
+    return record == b'""' or not all(re.fullmatch(rb'"[^"]*"|[^"]*', it) for it in record.split(b","))
+
+
+def page_of(given, script):
+    """Returns the page's answer to a script: tkcore's, unless a record needs its quotes, or the first one has
+    a byte of a mark."""
     records = [it for it in re.split(rb"[\r\n]+", script.removeprefix(MARK)) if it]
-    plain = list(itertools.takewhile(lambda it: b'"' not in it, records))
-    if records and records[0][:1] == MARK[:1]:
+    plain = list(itertools.takewhile(lambda it: not needs_quotes(it), records))
+    if records and records[0].lstrip(b'"')[:1] == MARK[:1]:
         plain = []
     if len(plain) == len(records):
-        return wanted or wanted_of(given, script)
+        return wanted_of(given, script)
     before = wanted_of(given, b"\n".join(plain)) if plain else (0, "", "")
     return before if before[0] == 1 else (
         1, "", f"tkcore: script: record {len(plain) + 1}: not a plain line\n")
@@ -181,14 +189,19 @@ def said_of(reads):
     return lines
 
 
+def unquoted(script):
+    """Returns a script that the page takes without its quotes, which no field needs."""
+    return script.replace(b'"', b"")
+
+
 def is_plain(script):
     """Whether a line is a record, and the script is short."""
-    return not set(script) & set(b'"\r\xef') and len(script) < 100_000
+    return not set(script) & set(b"\r\xef") and len(script) < 100_000
 
 
 def wrong_reads(given, script, said, whose):
     """Returns what is wrong with what the page says of a script's reads, or None."""
-    reads = list(reads_of(given, script))
+    reads = list(reads_of(given, unquoted(script)))
     wanted = said_of(reads)
     if whose:
         _, who, fault = whose
@@ -196,6 +209,13 @@ def wrong_reads(given, script, said, whose):
     if said == wanted:
         return None
     return "\n".join([script.decode(), "--- page:", *said, "--- wanted:", *wanted])
+
+
+def random_scripts(rng, count):
+    """Yields random scripts. Each tenth gets more quotes."""
+    for number in range(count):
+        script = compare.script(rng)
+        yield script if number % 10 else with_quotes(rng, script)
 
 
 def main():
@@ -208,7 +228,7 @@ def main():
     read.add_argument("--long", action="store_true")
     given = read.parse_args()
     rng = random.Random(given.seed)
-    pairs = [(script, page_of(given, script, wanted)) for script, wanted in examples()]
+    pairs = list(examples(given))
     count = len(pairs)
     for script, fault in faulty():
         if fault:
@@ -217,10 +237,10 @@ def main():
     journals = list(full())[:2 if given.long else 1]
     pairs += [(script, (0, "".join(f"{line}\n" for line in lines), "")) for script, lines in journals]
     scripts = [*EDGES, *(script for script, fault in faulty() if not fault)]
-    scripts += [compare.script(rng) for _ in range(given.scripts)]
-    scripts += [script.replace(b'"', b"") for script in scripts if b'"' in script]
+    scripts += random_scripts(rng, given.scripts)
+    scripts += [unquoted(script) for script in scripts if b'"' in script]
     pairs += [(script, page_of(given, script)) for script in scripts]
-    whose = {script: readers.made(rng, script) for script, (status, *_) in pairs
+    whose = {script: readers.made(rng, unquoted(script)) for script, (status, *_) in pairs
              if status != 1 and is_plain(script) and (script in EDGES or rng.random() < 0.8)}
     found = answers(given, [script for script, _ in pairs], whose)
     drawn = [(script, some) for (script, _), (*_, some) in zip(pairs, found) if some]
@@ -232,8 +252,9 @@ def main():
             *(wrong_cursor(given, cursor) for cursor in cursors),
             *(wrong_reads(given, *it) for it in plain)]), None):
         sys.exit(wrong)
+    quoted = sum(b'"' in script and status != 1 for script, (status, *_) in pairs)
     print(f"{count} examples, {stated} faults, {len(journals)} full journal(s) and {len(scripts)} scripts of "
-          f"seed {given.seed}: each report, and "
+          f"seed {given.seed}: each report, {quoted} of them of a script with quotes, and "
           f"what {len(cursors)} cursors show, is {'the program' if given.program else 'the model'}'s, "
           f"as what the page says of the reads of {len(plain)} scripts, "
           f"{sum(bool(it[2]) for it in plain)} of them with readers")

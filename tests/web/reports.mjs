@@ -67,21 +67,22 @@ function checkPlaces(changes) {
 }
 
 /** Returns the script's lines, and what the page says of its reads and shows at its cursor. */
-function drawnOf(script, bytes, readers) {
+function drawnOf(script, readers) {
     const library = new Library(modules.library), curves = new Curves(library);
     const clocks = new Clocks(library, script.session, curves);
     if (readers !== undefined)
         curves.readers = new Readers(readers.toString());
     const lines = script.run(clocks);
     checkPlaces(curves.changes);
-    const records = script.records.map(({ start, end }) => bytes.toString('latin1', start, end));
+    const plain = Buffer.from(script.bytes); // without quotes
+    const records = script.records.map(({ start, end }) => plain.toString('latin1', start, end));
     return { lines, drawn: { reads: curves.readLines(), cursors: cursorsOf(curves, clocks, records) } };
 }
 
 function reportOf(bytes, readers, isDrawn) {
     try {
         const script = new Script(modules.session, bytes);
-        const { lines, drawn } = isDrawn ? drawnOf(script, bytes, readers)
+        const { lines, drawn } = isDrawn ? drawnOf(script, readers)
             : { lines: script.run(), drawn: null };
         return [script.session.differences() ? 3 : 0, lines.map(it => `${it}\n`).join(''), '', drawn];
     } catch (fault) {
