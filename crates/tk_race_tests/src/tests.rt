@@ -93,12 +93,18 @@ fn first_gets(rt: &impl Abort, report: &RaceReport, expected: &[RaceReply]) {
     assert!(rt; replies.as_slice() == expected);
 }
 
+/// Returns the number of an order that was done, and 0 for other replies.
+fn number_of(reply: &RaceReply) -> u64 {
+    match *reply {
+        RaceReply::Done(number) => number,
+        _ => 0,
+    }
+}
+
 /// Returns whether all these orders were done, with numbers that rise from above `last`.
 fn rise(mut last: u64, replies: &[RaceReply]) -> bool {
     for reply in replies {
-        let RaceReply::Done(number) = *reply else {
-            return false;
-        };
+        let number = number_of(reply);
         if number <= last {
             return false;
         }

@@ -125,10 +125,20 @@ fn each_piece_begins_and_ends_once_even_without_actions(rt: HostRuntime) {
         begun: [AtomicU64::new(0), AtomicU64::new(0), AtomicU64::new(0)],
         ended: [AtomicU64::new(0), AtomicU64::new(0), AtomicU64::new(0)],
     };
-    let report = raced(&rt, rt.alloc(), counter(&rt), (0, 1), actors, &gate);
-    assert_same(&rt, &report.keeper.len(), &2);
+    assert_same(&rt, &entries_of(&rt, rt.alloc(), actors, &gate), &2);
     all_once(&rt, &gate.begun);
     all_once(&rt, &gate.ended);
+}
+
+/// Races these actors, and returns the number of entries.
+fn entries_of<R: Abort + Threads + Wait + Sync>(
+    rt: &R,
+    alloc: Global,
+    actors: Vec<Vec<Action>>,
+    gate: &Tally,
+) -> usize {
+    let report = raced(rt, alloc, counter(rt), (0, 1), actors, gate);
+    report.keeper.len()
 }
 
 /// Checks that each of these counts is 1.

@@ -6,7 +6,7 @@ use std::process::Abort;
 use tk_clock::{ClockId, Command, Snapshot, Timespec};
 use tk_counter::CounterDesc;
 use tk_keeper::Timekeeper;
-use tk_race::{Action, NoGate, RaceReply};
+use tk_race::{Action, NoGate, RaceReply, RaceReport};
 
 /// A time now of MONOTONIC.
 const NOW: Action = Action::Now(ClockId::Monotonic);
@@ -74,6 +74,15 @@ fn faults_of(rt: &impl Abort, keeper: &Timekeeper, replies: &[RaceReply]) -> u64
     faults
 }
 
+/// Returns the number of such times among all replies.
+fn all_faults(rt: &impl Abort, report: &RaceReport) -> u64 {
+    let mut faults = 0u64;
+    for replies in report.replies.as_slice() {
+        faults = faults.saturating_add(faults_of(rt, &report.keeper, replies.as_slice()));
+    }
+    faults
+}
+
 /// Four actors race. Each time lies between the commands before and after its reading, and no time
 /// of an actor is below the one before.
 #[test]
@@ -82,9 +91,9 @@ fn times_lie_in_the_life_of_their_fronts(rt: HostRuntime) {
     let actors = vec![in rt.alloc(); actions; 4].expect(&rt, "memory");
     let desc = CounterDesc::new(48, 16_777_216, 24).expect(&rt, "a counter");
     let report = raced(&rt, rt.alloc(), desc, (5, 10), actors, &NoGate);
-    let mut faults = 0u64;
-    for replies in report.replies.as_slice() {
-        faults = faults.saturating_add(faults_of(&rt, &report.keeper, replies.as_slice()));
-    }
-    assert_same(&rt, &(faults, report.replies.len()), &(0, 4));
+    assert_same(
+        &rt,
+        &(all_faults(&rt, &report), report.replies.len()),
+        &(0, 4),
+    );
 }

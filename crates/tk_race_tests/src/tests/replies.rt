@@ -11,19 +11,24 @@ use std::thread::Threads;
 use tk_clock::{ClockId, Command, Refusal, Timespec};
 use tk_counter::CounterDesc;
 use tk_keeper::Timekeeper;
-use tk_race::{Action, NoGate, RaceError, RaceReply};
+use tk_race::{Action, NoGate, RaceError, RaceReply, RaceReport};
 
 #[test]
 fn two_actors_of_three_updates_make_six_entries(rt: HostRuntime) {
     let actors = alike(rt.alloc(), 2, UPDATE, 3).expect(&rt, "memory");
     let report = raced(&rt, rt.alloc(), counter(&rt), (0, 1_000), actors, &NoGate);
     assert_same(&rt, &(report.keeper.len(), report.replies.len()), &(6, 2));
-    for replies in report.replies.as_slice() {
-        assert!(&rt; replies.len() == 3 && rise(0, replies.as_slice()));
-    }
+    three_each(&rt, &report);
     // every reading is the counter's next one, whichever actor gave the command
     for number in 1..=6u64 {
         has_update(&rt, &report.keeper, number, 1_000 * number);
+    }
+}
+
+/// Checks that each actor has three numbers that rise.
+fn three_each(rt: &impl Abort, report: &RaceReport) {
+    for replies in report.replies.as_slice() {
+        assert!(rt; replies.len() == 3 && rise(0, replies.as_slice()));
     }
 }
 
@@ -49,12 +54,15 @@ fn three_updates<R: Abort + Threads + Wait + Sync>(
 
 /// Returns the readings of the first three entries, and MONOTONIC at the third one.
 fn readings_and_time(rt: &impl Abort, keeper: &Timekeeper) -> ([u64; 3], Timespec) {
-    let mut readings = [0; 3];
-    for (number, place) in (1..).zip(&mut readings) {
-        *place = keeper.entry(number).expect(rt, "an entry").reading;
-    }
-    let time = keeper.get(ClockId::Monotonic, readings[2]);
+    let last = reading_of(rt, keeper, 3);
+    let readings = [reading_of(rt, keeper, 1), reading_of(rt, keeper, 2), last];
+    let time = keeper.get(ClockId::Monotonic, last);
     (readings, time.expect(rt, "a time"))
+}
+
+/// Returns the reading of the entry with a number.
+fn reading_of(rt: &impl Abort, keeper: &Timekeeper, number: u64) -> u64 {
+    keeper.entry(number).expect(rt, "an entry").reading
 }
 
 #[test]
@@ -122,9 +130,17 @@ fn a_first_glance_finds_the_opening(rt: HostRuntime) {
     let actors = alike(rt.alloc(), 3, Action::Glance, 2).expect(&rt, "memory");
     let report = raced(&rt, rt.alloc(), counter(&rt), (5, 10), actors, &NoGate);
     // nobody publishes, so no glance finds that the latch moved
-    let expected = [RaceReply::Glanced(0), RaceReply::Glanced(0)];
+    all_get(
+        &rt,
+        &report,
+        &[RaceReply::Glanced(0), RaceReply::Glanced(0)],
+    );
+}
+
+/// Checks the replies to every actor.
+fn all_get(rt: &impl Abort, report: &RaceReport, expected: &[RaceReply]) {
     for replies in report.replies.as_slice() {
-        assert!(&rt; replies.as_slice() == expected.as_slice());
+        assert!(rt; replies.as_slice() == expected);
     }
 }
 
