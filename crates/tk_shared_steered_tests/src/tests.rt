@@ -1,5 +1,5 @@
 //! Tests values from outside the contracts, and threads.
-ghost use Rattle.std.specs.Prelude.{◌≡◌, IfOk};
+ghost use Rattle.std.specs.Prelude.{◌≡◌};
 ghost use Rattle.tk_shared.specs.Opening.{IsNamed};
 
 mod alone;
@@ -9,7 +9,6 @@ use std::alloc::Global;
 use std::fmt::Debug;
 use std::process::Abort;
 use std::sync::Wait;
-use std::test::Fail;
 use tk_clock::{Snapshot, Timespec};
 use tk_counter::CounterDesc;
 use tk_ntp::Timex;
@@ -24,47 +23,42 @@ fn assert_same<T: PartialEq + Debug>(rt: &impl Abort, found: &T, wanted: &T) {
 
 /// Prepares a keeper of a counter of 1 GHz for this number of callers, two seconds before a day
 /// ends.
-fn ready<C: Counter, R: Wait>(
+fn ready<C: Counter, R: Wait + Abort>(
     rt: &R,
     alloc: Global,
     counter: C,
     callers: usize,
-) -> Result<Prepared<C>, Fail> {
-    let desc = CounterDesc::new(64, 8_388_608, 23).or(Err("a counter of 1 GHz"))?;
+) -> Prepared<C> {
+    let desc = CounterDesc::new(64, 8_388_608, 23).expect(rt, "a counter of 1 GHz");
     let real = Timespec {
         sec: 1_483_228_798,
         nsec: 0,
     };
-    match prepare(alloc, rt, desc, real, counter, callers, 1_000) {
-        Ok(prepared) => Ok(prepared),
-        Err(_) => Err(Fail::from("not prepared")),
-    }
+    let prepared = prepare(alloc, rt, desc, real, counter, callers, 1_000);
+    prepared.ok().expect(rt, "a prepared keeper")
 }
 
 /// Opens the prepared keeper, with all its callers.
 fn opened<L: Named, C: Counter>(
+    rt: &impl Abort,
     alloc: Global,
     prepared: Prepared<C>,
-) -> Result<(SharedKeeper<L, C>, Vec<Caller<L>>), Fail>
+) -> (SharedKeeper<L, C>, Vec<Caller<L>>)
     requires named { IsNamed prepared L.page L.latch L.notice L.name L.parts L.callers }
 {
-    match SharedKeeper::<L, C>::open(alloc, prepared) {
-        Ok(opened) => Ok(opened),
-        Err(_) => Err(Fail::from("not opened")),
-    }
+    let opened = SharedKeeper::<L, C>::open(alloc, prepared);
+    opened.ok().expect(rt, "a keeper")
 }
 
 /// Opens a discipline whose owner is the last caller of a list, and removes the caller from it.
-fn steered<L: Named, C: Counter, R: Wait>(
+fn steered<L: Named, C: Counter, R: Wait + Abort>(
     rt: &R,
     keeper: &SharedKeeper<L, C>,
     callers: &mut Vec<Caller<L>>,
-) -> Result<SharedSteering<L>, Fail> {
-    let owner = callers.pop().ok_or("a caller")?;
-    match SharedSteering::open(rt, keeper, owner, 250) {
-        Ok(steering) => Ok(steering),
-        Err(_) => Err(Fail::from("no discipline")),
-    }
+) -> SharedSteering<L> {
+    let owner = callers.pop().expect(rt, "a caller");
+    let steering = SharedSteering::open(rt, keeper, owner, 250);
+    steering.ok().expect(rt, "a discipline")
 }
 
 /// Asks for a frequency of 33 ppm, and for an inserted second as the day ends. Returns whether the

@@ -1,13 +1,12 @@
 //! Tests when the gate is called, and that actors act at the same time.
 
-use super::{UPDATE, alike, assert_same, nanosecond_counter, raced, rise};
+use super::{UPDATE, alike, assert_same, counter, first_gets, listed, raced, rise};
 use std::alloc::Global;
 use std::process::Abort;
 use std::sync::Wait;
 use std::sync::atomic::{AtomicBool, AtomicU64, Ordering};
-use std::test::Fail;
 use std::thread::{self, Threads};
-use tk_race::{Action, Gate, RaceReply};
+use tk_race::{Action, Gate, RaceReply, RaceReport};
 
 /// The number of times that a held piece checks a flag before it gives up.
 const TURNS: u32 = 50_000_000;
@@ -64,36 +63,34 @@ impl Gate for Meeting {
 }
 
 #[test]
-fn actors_act_at_once(rt: HostRuntime) -> Result<(), Fail> {
+fn actors_act_at_once(rt: HostRuntime) {
     for actors in [2, 3, 64] {
-        all_meet(&rt, rt.alloc(), actors)?;
+        all_meet(&rt, rt.alloc(), actors);
     }
-    Ok(())
 }
 
 /// Races this number of actors with three orders each. None of them begins before all have arrived.
-fn all_meet<R: Abort + Threads + Wait + Sync>(
-    rt: &R,
-    alloc: Global,
-    count: u32,
-) -> Result<(), Fail> {
-    let desc = nanosecond_counter()?;
-    let actors = alike(alloc, count as usize, UPDATE, 3)?;
+fn all_meet<R: Abort + Threads + Wait + Sync>(rt: &R, alloc: Global, count: u32) {
+    let actors = alike(alloc, count as usize, UPDATE, 3).expect(rt, "memory");
     let gate = Meeting {
         expected: u64::from(count),
         came: AtomicU64::new(0),
         ended: AtomicU64::new(0),
         late: Flag::new(),
     };
-    let report = raced(rt, alloc, desc, (0, 1_000), actors.as_slice(), &gate)?;
+    let report = raced(rt, alloc, counter(rt), (0, 1_000), actors, &gate);
+    all_rise(rt, &report, &gate, u64::from(count));
+}
+
+/// Checks that all of these actors met, and that their orders are numbered as they were done.
+fn all_rise(rt: &impl Abort, report: &RaceReport, gate: &Meeting, count: u64) {
     assert!(rt; !gate.late.0.load(Ordering::SeqCst));
     let ended = gate.ended.load(Ordering::SeqCst);
-    assert_same(rt, &ended, &u64::from(count));
+    assert_same(rt, &ended, &count);
     assert_same(rt, &(report.keeper.len() as u64), &ended.wrapping_mul(3));
     for replies in report.replies.as_slice() {
         assert!(rt; rise(0, replies.as_slice()));
     }
-    Ok(())
 }
 
 /// Counts the beginnings and ends of three pieces.
@@ -121,29 +118,34 @@ impl Gate for Tally {
 }
 
 #[test]
-fn each_piece_begins_and_ends_once_even_without_actions(rt: HostRuntime) -> Result<(), Fail> {
-    let orders = vec![in rt.alloc(); UPDATE; 2]?;
-    let looks = vec![in rt.alloc(); Action::Look; 1]?;
-    let actors = vec![in rt.alloc(); orders, Vec::new(rt.alloc()), looks]?;
+fn each_piece_begins_and_ends_once_even_without_actions(rt: HostRuntime) {
+    let (orders, looks) = ([UPDATE; 2], [Action::Look]);
+    let actors = listed(rt.alloc(), &[&orders, &[], &looks]).expect(&rt, "memory");
     let gate = Tally {
         begun: [AtomicU64::new(0), AtomicU64::new(0), AtomicU64::new(0)],
         ended: [AtomicU64::new(0), AtomicU64::new(0), AtomicU64::new(0)],
     };
-    let report = raced(
-        &rt,
-        rt.alloc(),
-        nanosecond_counter()?,
-        (0, 1),
-        actors.as_slice(),
-        &gate,
-    )?;
-    assert_same(&rt, &report.keeper.len(), &2);
-    for pieces in [&gate.begun, &gate.ended] {
-        for times in pieces {
-            assert_same(&rt, &times.load(Ordering::SeqCst), &1);
-        }
+    assert_same(&rt, &entries_of(&rt, rt.alloc(), actors, &gate), &2);
+    all_once(&rt, &gate.begun);
+    all_once(&rt, &gate.ended);
+}
+
+/// Races these actors, and returns the number of entries.
+fn entries_of<R: Abort + Threads + Wait + Sync>(
+    rt: &R,
+    alloc: Global,
+    actors: Vec<Vec<Action>>,
+    gate: &Tally,
+) -> usize {
+    let report = raced(rt, alloc, counter(rt), (0, 1), actors, gate);
+    report.keeper.len()
+}
+
+/// Checks that each of these counts is 1.
+fn all_once(rt: &impl Abort, pieces: &[AtomicU64]) {
+    for times in pieces {
+        assert_same(rt, &times.load(Ordering::SeqCst), &1);
     }
-    Ok(())
 }
 
 /// Holds the second of two pieces in `before` until the first arrives in `after`, and holds the
@@ -187,35 +189,43 @@ impl Gate for InTurn {
 }
 
 #[test]
-fn a_gate_is_called_round_all_actions_of_an_actor(rt: HostRuntime) -> Result<(), Fail> {
-    let desc = nanosecond_counter()?;
-    let actors = alike(rt.alloc(), 2, UPDATE, 20_000)?;
-    let gate = InTurn::holding(1);
-    let report = raced(&rt, rt.alloc(), desc, (0, 1), actors.as_slice(), &gate)?;
-    assert!(&rt; !gate.late.0.load(Ordering::SeqCst));
+fn a_gate_is_called_round_all_actions_of_an_actor(rt: HostRuntime) {
+    let actors = alike(rt.alloc(), 2, UPDATE, 20_000).expect(&rt, "memory");
+    let report = held(&rt, rt.alloc(), actors, 1);
     // all entries of actor 0 precede all entries of actor 1
-    let mut number = 0u64;
+    let mut number = 0;
     for replies in report.replies.as_slice() {
-        for reply in replies.as_slice() {
-            number = number.wrapping_add(1);
-            assert_same(&rt, reply, &RaceReply::Done(number));
-        }
+        number = all_follow(&rt, number, replies.as_slice());
     }
     assert_same(&rt, &number, &40_000);
-    Ok(())
+}
+
+/// Returns the report of a race of two actors. The actor `second` begins after the other has ended.
+fn held<R: Abort + Threads + Wait + Sync>(
+    rt: &R,
+    alloc: Global,
+    actors: Vec<Vec<Action>>,
+    second: usize,
+) -> RaceReport {
+    let gate = InTurn::holding(second);
+    let report = raced(rt, alloc, counter(rt), (0, 1), actors, &gate);
+    assert!(rt; !gate.late.0.load(Ordering::SeqCst));
+    report
+}
+
+/// Checks that these orders have the numbers after `number`, and returns the last one.
+fn all_follow(rt: &impl Abort, mut number: u64, replies: &[RaceReply]) -> u64 {
+    for reply in replies {
+        number = number.wrapping_add(1);
+        assert_same(rt, reply, &RaceReply::Done(number));
+    }
+    number
 }
 
 #[test]
-fn an_actor_reads_what_another_did_before_it_began(rt: HostRuntime) -> Result<(), Fail> {
-    let desc = nanosecond_counter()?;
-    let reads = vec![in rt.alloc(); Action::Glance, Action::Look]?;
-    let orders = vec![in rt.alloc(); UPDATE; 4]?;
-    let actors = vec![in rt.alloc(); reads, orders]?;
-    let gate = InTurn::holding(0);
-    let report = raced(&rt, rt.alloc(), desc, (0, 1), actors.as_slice(), &gate)?;
-    assert!(&rt; !gate.late.0.load(Ordering::SeqCst));
-    let replies = report.replies.first().ok_or("replies")?;
-    let expected = [RaceReply::Glanced(4), RaceReply::Saw(4)];
-    assert!(&rt; replies.as_slice() == expected.as_slice());
-    Ok(())
+fn an_actor_reads_what_another_did_before_it_began(rt: HostRuntime) {
+    let (reads, orders) = ([Action::Glance, Action::Look], [UPDATE; 4]);
+    let actors = listed(rt.alloc(), &[&reads, &orders]).expect(&rt, "memory");
+    let report = held(&rt, rt.alloc(), actors, 0);
+    first_gets(&rt, &report, &[RaceReply::Glanced(4), RaceReply::Saw(4)]);
 }

@@ -1,64 +1,72 @@
 //! Tests the replies that actors get.
 
-use super::{OPENED_TIME, UPDATE, alike, assert_same, nanosecond_counter, raced, rise};
+use super::{
+    OPENED_TIME, UPDATE, alike, assert_same, counter, first_gets, raced, raced_alone, result_of,
+    rise,
+};
 use std::alloc::Global;
 use std::process::Abort;
 use std::sync::Wait;
-use std::test::Fail;
 use std::thread::Threads;
 use tk_clock::{ClockId, Command, Refusal, Timespec};
 use tk_counter::CounterDesc;
-use tk_race::{Action, NoGate, RaceError, RaceReply, race};
+use tk_keeper::Timekeeper;
+use tk_race::{Action, NoGate, RaceError, RaceReply, RaceReport};
 
 #[test]
-fn two_actors_of_three_updates_make_six_entries(rt: HostRuntime) -> Result<(), Fail> {
-    let desc = nanosecond_counter()?;
-    let actors = alike(rt.alloc(), 2, UPDATE, 3)?;
-    let report = raced(
-        &rt,
-        rt.alloc(),
-        desc,
-        (0, 1_000),
-        actors.as_slice(),
-        &NoGate,
-    )?;
+fn two_actors_of_three_updates_make_six_entries(rt: HostRuntime) {
+    let actors = alike(rt.alloc(), 2, UPDATE, 3).expect(&rt, "memory");
+    let report = raced(&rt, rt.alloc(), counter(&rt), (0, 1_000), actors, &NoGate);
     assert_same(&rt, &(report.keeper.len(), report.replies.len()), &(6, 2));
-    for replies in report.replies.as_slice() {
-        assert!(&rt; replies.len() == 3 && rise(0, replies.as_slice()));
-    }
+    three_each(&rt, &report);
     // every reading is the counter's next one, whichever actor gave the command
     for number in 1..=6u64 {
-        let entry = report.keeper.entry(number).ok_or("an entry")?;
-        assert_same(
-            &rt,
-            &(entry.reading, entry.cmd),
-            &(1_000 * number, Command::Update),
-        );
+        has_update(&rt, &report.keeper, number, 1_000 * number);
     }
-    Ok(())
+}
+
+/// Checks that each actor has three numbers that rise.
+fn three_each(rt: &impl Abort, report: &RaceReport) {
+    for replies in report.replies.as_slice() {
+        assert!(rt; replies.len() == 3 && rise(0, replies.as_slice()));
+    }
+}
+
+/// Checks that the entry with a number is an update at this reading.
+fn has_update(rt: &impl Abort, keeper: &Timekeeper, number: u64, reading: u64) {
+    let entry = keeper.entry(number).expect(rt, "an entry");
+    assert_same(rt, &(entry.reading, entry.cmd), &(reading, Command::Update));
 }
 
 /// The readings of three updates by one actor on a counter of one nanosecond a cycle, and MONOTONIC
 /// at the last one.
-fn three_updates<R: Threads + Wait + Sync>(
+fn three_updates<R: Abort + Threads + Wait + Sync>(
     rt: &R,
     alloc: Global,
     bits: u32,
     reading: u64,
     step: u64,
-) -> Result<([u64; 3], Timespec), Fail> {
-    let desc = CounterDesc::new(bits, 16_777_216, 24)?;
-    let actors = alike(alloc, 1, UPDATE, 3)?;
-    let keeper = raced(rt, alloc, desc, (reading, step), actors.as_slice(), &NoGate)?.keeper;
-    let mut readings = [0; 3];
-    for (number, place) in (1..).zip(&mut readings) {
-        *place = keeper.entry(number).ok_or("an entry")?.reading;
-    }
-    Ok((readings, keeper.get(ClockId::Monotonic, readings[2])?))
+) -> ([u64; 3], Timespec) {
+    let desc = CounterDesc::new(bits, 16_777_216, 24).expect(rt, "a counter");
+    let report = raced_alone(rt, alloc, desc, (reading, step), &[UPDATE; 3]);
+    readings_and_time(rt, &report.keeper)
+}
+
+/// Returns the readings of the first three entries, and MONOTONIC at the third one.
+fn readings_and_time(rt: &impl Abort, keeper: &Timekeeper) -> ([u64; 3], Timespec) {
+    let last = reading_of(rt, keeper, 3);
+    let readings = [reading_of(rt, keeper, 1), reading_of(rt, keeper, 2), last];
+    let time = keeper.get(ClockId::Monotonic, last);
+    (readings, time.expect(rt, "a time"))
+}
+
+/// Returns the reading of the entry with a number.
+fn reading_of(rt: &impl Abort, keeper: &Timekeeper, number: u64) -> u64 {
+    keeper.entry(number).expect(rt, "an entry").reading
 }
 
 #[test]
-fn readings_and_steps_keep_their_upper_bits(rt: HostRuntime) -> Result<(), Fail> {
+fn readings_and_steps_keep_their_upper_bits(rt: HostRuntime) {
     for (bits, reading, step, readings, sec, nsec) in [
         (32, 0, 4_294_968_296, [1_000, 2_000, 3_000], 0, 3_000),
         (
@@ -80,17 +88,15 @@ fn readings_and_steps_keep_their_upper_bits(rt: HostRuntime) -> Result<(), Fail>
     ] {
         assert_same(
             &rt,
-            &three_updates(&rt, rt.alloc(), bits, reading, step)?,
+            &three_updates(&rt, rt.alloc(), bits, reading, step),
             &(readings, Timespec { sec, nsec }),
         );
     }
-    Ok(())
 }
 
 #[test]
-fn one_actor_is_answered_as_on_one_thread(rt: HostRuntime) -> Result<(), Fail> {
-    let desc = nanosecond_counter()?;
-    let actions = vec![in rt.alloc();
+fn one_actor_is_answered_as_on_one_thread(rt: HostRuntime) {
+    let actions = [
         UPDATE,
         Action::Glance,
         Action::Look,
@@ -100,9 +106,8 @@ fn one_actor_is_answered_as_on_one_thread(rt: HostRuntime) -> Result<(), Fail> {
         Action::Order(Command::Resume(Timespec { sec: 1, nsec: 0 })),
         Action::Look,
         Action::Glance,
-    ]?;
-    let actors = vec![in rt.alloc(); actions]?;
-    let report = raced(&rt, rt.alloc(), desc, (5, 10), actors.as_slice(), &NoGate)?;
+    ];
+    let report = raced_alone(&rt, rt.alloc(), counter(&rt), (5, 10), &actions);
     let expected = [
         RaceReply::Done(1),
         RaceReply::Glanced(1),
@@ -114,25 +119,29 @@ fn one_actor_is_answered_as_on_one_thread(rt: HostRuntime) -> Result<(), Fail> {
         RaceReply::Saw(3),
         RaceReply::Glanced(3),
     ];
-    let replies = report.replies.first().ok_or("replies")?;
-    assert!(&rt; replies.as_slice() == expected.as_slice());
+    first_gets(&rt, &report, &expected);
     // a refused order has also read the counter
-    let resumed = report.keeper.entry(3).ok_or("an entry")?;
+    let resumed = report.keeper.entry(3).expect(&rt, "an entry");
     assert_same(&rt, &(report.keeper.len(), resumed.reading), &(3, 55));
-    Ok(())
 }
 
 #[test]
-fn a_first_glance_finds_the_opening(rt: HostRuntime) -> Result<(), Fail> {
-    let desc = nanosecond_counter()?;
-    let actors = alike(rt.alloc(), 3, Action::Glance, 2)?;
-    let report = raced(&rt, rt.alloc(), desc, (5, 10), actors.as_slice(), &NoGate)?;
+fn a_first_glance_finds_the_opening(rt: HostRuntime) {
+    let actors = alike(rt.alloc(), 3, Action::Glance, 2).expect(&rt, "memory");
+    let report = raced(&rt, rt.alloc(), counter(&rt), (5, 10), actors, &NoGate);
     // nobody publishes, so no glance finds that the latch moved
-    let expected = [RaceReply::Glanced(0), RaceReply::Glanced(0)];
+    all_get(
+        &rt,
+        &report,
+        &[RaceReply::Glanced(0), RaceReply::Glanced(0)],
+    );
+}
+
+/// Checks the replies to every actor.
+fn all_get(rt: &impl Abort, report: &RaceReport, expected: &[RaceReply]) {
     for replies in report.replies.as_slice() {
-        assert!(&rt; replies.as_slice() == expected.as_slice());
+        assert!(rt; replies.as_slice() == expected);
     }
-    Ok(())
 }
 
 /// Returns the error of a race of `actors` actors without actions.
@@ -143,24 +152,15 @@ fn error_of<R: Abort + Threads + Wait + Sync>(
     desc: CounterDesc,
     reading: u64,
     real: Timespec,
-) -> Result<Option<RaceError>, Fail> {
-    let actors = alike(alloc, actors, UPDATE, 0)?;
-    Ok(race(
-        alloc,
-        rt,
-        desc,
-        reading,
-        real,
-        1,
-        actors.as_slice(),
-        &NoGate,
-    )
-    .err())
+) -> Option<RaceError> {
+    let actors = alike(alloc, actors, UPDATE, 0).expect(rt, "memory");
+    let list = actors.as_slice();
+    result_of(rt, alloc, desc, (reading, 1), real, list, &NoGate).err()
 }
 
 #[test]
-fn one_to_64_actors_race(rt: HostRuntime) -> Result<(), Fail> {
-    let desc = nanosecond_counter()?;
+fn one_to_64_actors_race(rt: HostRuntime) {
+    let desc = counter(&rt);
     for (actors, error) in [
         (0, Some(RaceError::Count)),
         (1, None),
@@ -170,16 +170,15 @@ fn one_to_64_actors_race(rt: HostRuntime) -> Result<(), Fail> {
     ] {
         assert_same(
             &rt,
-            &error_of(&rt, rt.alloc(), actors, desc, 0, OPENED_TIME)?,
+            &error_of(&rt, rt.alloc(), actors, desc, 0, OPENED_TIME),
             &error,
         );
     }
-    Ok(())
 }
 
 #[test]
-fn count_comes_before_invalid(rt: HostRuntime) -> Result<(), Fail> {
-    let desc = nanosecond_counter()?;
+fn count_comes_before_invalid(rt: HostRuntime) {
+    let desc = counter(&rt);
     let late = Timespec {
         sec: 8_277_292_036,
         nsec: 0,
@@ -193,22 +192,26 @@ fn count_comes_before_invalid(rt: HostRuntime) -> Result<(), Fail> {
     ] {
         assert_same(
             &rt,
-            &error_of(&rt, rt.alloc(), actors, desc, reading, real)?,
+            &error_of(&rt, rt.alloc(), actors, desc, reading, real),
             &error,
         );
     }
-    Ok(())
 }
 
 #[test]
-fn each_error_has_its_text(rt: HostRuntime) -> Result<(), Fail> {
+fn each_error_has_its_text(rt: HostRuntime) {
     for (error, text) in [
         (RaceError::Count, "count out of range"),
         (RaceError::Invalid, "invalid opening"),
         (RaceError::Memory, "out of memory"),
         (RaceError::Threads, "cannot start a thread"),
     ] {
-        assert!(&rt; format!(in rt.alloc(); "{error}")?.as_str() == text);
+        says(&rt, rt.alloc(), error, text);
     }
-    Ok(())
+}
+
+/// Checks the text of an error.
+fn says(rt: &impl Abort, alloc: Global, error: RaceError, text: &str) {
+    let said = format!(in alloc; "{error}").expect(rt, "memory");
+    assert_same(rt, &said.as_str(), &text);
 }

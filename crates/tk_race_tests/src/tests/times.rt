@@ -1,10 +1,11 @@
 //! Tests the time now in races.
 
-use super::{UPDATE, assert_same, nanosecond_counter, raced};
+use super::{UPDATE, assert_same, counter, first_gets, raced, raced_alone};
 use std::alloc::{AllocError, Global};
-use std::test::Fail;
+use std::process::Abort;
 use tk_clock::{ClockId, Command, ReadError, Timespec};
 use tk_counter::CounterDesc;
+use tk_keeper::Timekeeper;
 use tk_race::{Action, NoGate, RaceReply};
 
 /// A reply with this front and this time.
@@ -18,8 +19,8 @@ fn timed(front: u64, sec: i64, nsec: u32) -> RaceReply {
 /// The clocks open at reading 5, and every action reads 10 ns more. MONOTONIC is 40 ns at the
 /// suspension, which lasts a second by the resume.
 #[test]
-fn times_are_those_of_the_counters_readings(rt: HostRuntime) -> Result<(), Fail> {
-    let actions = vec![in rt.alloc();
+fn times_are_those_of_the_counters_readings(rt: HostRuntime) {
+    let actions = [
         Action::Now(ClockId::Monotonic),
         Action::Order(Command::Update),
         Action::Now(ClockId::Realtime),
@@ -29,10 +30,8 @@ fn times_are_those_of_the_counters_readings(rt: HostRuntime) -> Result<(), Fail>
         Action::Order(Command::Resume(Timespec { sec: 1, nsec: 0 })),
         Action::Now(ClockId::Boottime),
         Action::Glance,
-    ]?;
-    let actors = vec![in rt.alloc(); actions]?;
-    let desc = nanosecond_counter()?;
-    let report = raced(&rt, rt.alloc(), desc, (5, 10), actors.as_slice(), &NoGate)?;
+    ];
+    let report = raced_alone(&rt, rt.alloc(), counter(&rt), (5, 10), &actions);
     let expected = [
         timed(0, 0, 10),
         RaceReply::Done(1),
@@ -44,9 +43,7 @@ fn times_are_those_of_the_counters_readings(rt: HostRuntime) -> Result<(), Fail>
         timed(3, 1, 50),
         RaceReply::Glanced(3),
     ];
-    let replies = report.replies.first().ok_or("replies")?;
-    assert!(&rt; replies.as_slice() == expected.as_slice());
-    Ok(())
+    first_gets(&rt, &report, &expected);
 }
 
 /// The number of orders of each actor. It asks for the time between them.
@@ -62,48 +59,40 @@ fn times_among_orders(alloc: Global, times: u64) -> Result<Vec<Action>, AllocErr
     Ok(actions)
 }
 
+/// Returns 64 actors with these orders and times.
+fn asking_and_ordering(alloc: Global) -> Result<Vec<Vec<Action>>, AllocError> {
+    let mut actors = Vec::new(alloc);
+    for _ in 0..64 {
+        actors.push(times_among_orders(alloc, ORDERS - 1)?)?;
+    }
+    Ok(actors)
+}
+
 /// Each of 64 actors ends with an order, so the last entry has the last of all readings. A time that
 /// tried again has moved the counter once, as every other action.
 #[test]
-fn each_order_and_each_time_adds_one_step(rt: HostRuntime) -> Result<(), Fail> {
-    let mut actors = Vec::new(rt.alloc());
-    for _ in 0..64 {
-        actors.push(times_among_orders(rt.alloc(), ORDERS - 1)?)?;
-    }
-    let desc = nanosecond_counter()?;
-    let report = raced(
-        &rt,
-        rt.alloc(),
-        desc,
-        (0, 1_009),
-        actors.as_slice(),
-        &NoGate,
-    )?;
-    assert_same(&rt, &(report.keeper.len() as u64), &(64 * ORDERS));
-    let last = report.keeper.entry(64 * ORDERS).ok_or("an entry")?;
-    assert_same(&rt, &last.reading, &(64 * (2 * ORDERS - 1) * 1_009));
-    Ok(())
+fn each_order_and_each_time_adds_one_step(rt: HostRuntime) {
+    let actors = asking_and_ordering(rt.alloc()).expect(&rt, "memory");
+    let report = raced(&rt, rt.alloc(), counter(&rt), (0, 1_009), actors, &NoGate);
+    ends_at(&rt, &report.keeper, 64 * (2 * ORDERS - 1) * 1_009);
+}
+
+/// Checks that the keeper has all orders, the last of them at this reading.
+fn ends_at(rt: &impl Abort, keeper: &Timekeeper, reading: u64) {
+    assert_same(rt, &(keeper.len() as u64), &(64 * ORDERS));
+    let last = keeper.entry(64 * ORDERS).expect(rt, "an entry");
+    assert_same(rt, &last.reading, &reading);
 }
 
 /// 2^62 ns after the opening no clock has a value.
 #[test]
-fn a_reading_beyond_the_clocks_is_refused(rt: HostRuntime) -> Result<(), Fail> {
-    let actions = vec![in rt.alloc(); Action::Now(ClockId::Monotonic); 1]?;
-    let actors = vec![in rt.alloc(); actions]?;
-    let desc = CounterDesc::new(64, 16_777_216, 24)?;
-    let report = raced(
-        &rt,
-        rt.alloc(),
-        desc,
-        (0, 1 << 62),
-        actors.as_slice(),
-        &NoGate,
-    )?;
+fn a_reading_beyond_the_clocks_is_refused(rt: HostRuntime) {
+    let actions = [Action::Now(ClockId::Monotonic)];
+    let desc = CounterDesc::new(64, 16_777_216, 24).expect(&rt, "a counter");
+    let report = raced_alone(&rt, rt.alloc(), desc, (0, 1 << 62), &actions);
     let refused = RaceReply::Untimed {
         front: 0,
         refusal: ReadError::Range,
     };
-    let replies = report.replies.first().ok_or("replies")?;
-    assert!(&rt; replies.as_slice() == [refused].as_slice());
-    Ok(())
+    first_gets(&rt, &report, &[refused]);
 }

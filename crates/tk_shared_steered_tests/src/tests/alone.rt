@@ -7,7 +7,6 @@ use std::alloc::Global;
 use std::marker::Brand;
 use std::process::Abort;
 use std::sync::Wait;
-use std::test::Fail;
 use tk_clock::{Command, Refusal, Snapshot};
 use tk_ntp::SteeredClock;
 use tk_shared::{Caller, Named, Prepared, SharedKeeper, Ticker};
@@ -33,23 +32,18 @@ enum Deed {
 }
 
 /// Opens a keeper for this number of callers under a `Brand`, and lets them act.
-fn does<R: Wait + Abort>(rt: &R, alloc: Global, callers: usize, deed: Deed) -> Result<(), Fail> {
-    let prepared = ready(rt, alloc, Ticker::new(0, STEP), callers)?;
-    acts::<Brand, R>(rt, alloc, deed, prepared)
+fn does<R: Wait + Abort>(rt: &R, alloc: Global, callers: usize, deed: Deed) {
+    let prepared = ready(rt, alloc, Ticker::new(0, STEP), callers);
+    acts::<Brand, R>(rt, alloc, deed, prepared);
 }
 
 /// Owns the keeper and its callers, and only lends them to the functions that act, so that none of
 /// those drops a keeper where it ends early.
-fn acts<L: Named, R: Wait + Abort>(
-    rt: &R,
-    alloc: Global,
-    deed: Deed,
-    prepared: Prepared<Ticker>,
-) -> Result<(), Fail>
+fn acts<L: Named, R: Wait + Abort>(rt: &R, alloc: Global, deed: Deed, prepared: Prepared<Ticker>)
     requires named { IsNamed prepared L.page L.latch L.notice L.name L.parts L.callers }
 {
-    let (keeper, mut callers) = opened::<L, Ticker>(alloc, prepared)?;
-    acts_on(rt, &keeper, &mut callers, deed)
+    let (keeper, mut callers) = opened::<L, Ticker>(rt, alloc, prepared);
+    acts_on(rt, &keeper, &mut callers, deed);
 }
 
 fn acts_on<L: Named>(
@@ -57,7 +51,7 @@ fn acts_on<L: Named>(
     keeper: &SharedKeeper<L, Ticker>,
     callers: &mut Vec<Caller<L>>,
     deed: Deed,
-) -> Result<(), Fail> {
+) {
     match deed {
         Deed::Begin => begins_all(rt, keeper, callers),
         Deed::Advance => advances(rt, keeper, callers),
@@ -109,16 +103,16 @@ fn is_disciplined(rt: &impl Abort, clock: &SteeredClock, left: &Left) {
 }
 
 #[test]
-fn seconds_begin_late_through_an_inserted_second(rt: HostRuntime) -> Result<(), Fail> {
-    does(&rt, rt.alloc(), 1, Deed::Begin)
+fn seconds_begin_late_through_an_inserted_second(rt: HostRuntime) {
+    does(&rt, rt.alloc(), 1, Deed::Begin);
 }
 
 fn begins_all<L: Named>(
     rt: &(impl Wait + Abort),
     keeper: &SharedKeeper<L, Ticker>,
     callers: &mut Vec<Caller<L>>,
-) -> Result<(), Fail> {
-    let mut steering = steered(rt, keeper, callers)?;
+) {
+    let mut steering = steered(rt, keeper, callers);
     begins_each(rt, keeper, &mut steering);
     let left = Left {
         front: 24,
@@ -127,7 +121,6 @@ fn begins_all<L: Named>(
         lag: (1_152_921_504_674_885_678, 204_913_783_045_357_568),
     };
     leaves(rt, keeper, steering, &left);
-    Ok(())
 }
 
 /// Lets 12 calls begin the seconds that are due, one of them inserted.
@@ -143,16 +136,16 @@ fn begins_each<L: Named>(
 }
 
 #[test]
-fn all_due_seconds_begin_late(rt: HostRuntime) -> Result<(), Fail> {
-    does(&rt, rt.alloc(), 1, Deed::Advance)
+fn all_due_seconds_begin_late(rt: HostRuntime) {
+    does(&rt, rt.alloc(), 1, Deed::Advance);
 }
 
 fn advances<L: Named>(
     rt: &(impl Wait + Abort),
     keeper: &SharedKeeper<L, Ticker>,
     callers: &mut Vec<Caller<L>>,
-) -> Result<(), Fail> {
-    let mut steering = steered(rt, keeper, callers)?;
+) {
+    let mut steering = steered(rt, keeper, callers);
     advances_often(rt, keeper, &mut steering);
     let left = Left {
         front: 14,
@@ -161,7 +154,6 @@ fn advances<L: Named>(
         lag: (1_152_921_502_771_523_105, 15_088_747_601_551_425_536),
     };
     leaves(rt, keeper, steering, &left);
-    Ok(())
 }
 
 /// Lets three calls begin all seconds that are due, one of them inserted.
@@ -198,22 +190,21 @@ fn reads<L: Named>(
 }
 
 #[test]
-fn another_callers_command_is_reported(rt: HostRuntime) -> Result<(), Fail> {
-    does(&rt, rt.alloc(), 2, Deed::Meet)
+fn another_callers_command_is_reported(rt: HostRuntime) {
+    does(&rt, rt.alloc(), 2, Deed::Meet);
 }
 
 fn meets<L: Named>(
     rt: &(impl Wait + Abort),
     keeper: &SharedKeeper<L, Ticker>,
     callers: &mut Vec<Caller<L>>,
-) -> Result<(), Fail> {
-    let mut steering = steered(rt, keeper, callers)?;
+) {
+    let mut steering = steered(rt, keeper, callers);
     meets_another(rt, keeper, &mut steering, callers.as_mut_slice());
     let (caller, clock) = steering.into_parts();
     // the first of the two calls gave its update
     assert_same(rt, &caller.front(), &4);
     assert_same(rt, &clock.snapshot(0).last(), &600_000_000);
-    Ok(())
 }
 
 /// Lets a second begin before and after another caller's command. Its read is no command.
@@ -235,23 +226,22 @@ fn meets_another<L: Named>(
 }
 
 #[test]
-fn no_discipline_is_opened_in_error(rt: HostRuntime) -> Result<(), Fail> {
-    does(&rt, rt.alloc(), 2, Deed::Fail)
+fn no_discipline_is_opened_in_error(rt: HostRuntime) {
+    does(&rt, rt.alloc(), 2, Deed::Fail);
 }
 
 fn fails<L: Named>(
     rt: &(impl Wait + Abort),
     keeper: &SharedKeeper<L, Ticker>,
     callers: &mut Vec<Caller<L>>,
-) -> Result<(), Fail> {
-    let owner = callers.pop().ok_or("a caller")?;
+) {
+    let owner = callers.pop().expect(rt, "a caller");
     let invalid = SteeringFault::Refused(Refusal::Invalid);
-    let owner = unsteered(rt, keeper, owner, (0, invalid))?;
+    let owner = unsteered(rt, keeper, owner, (0, invalid));
     let answer = other_commands(rt, keeper, callers.as_mut_slice(), Command::Update);
     assert_same(rt, &answer, &Some(Ok(1)));
-    let owner = unsteered(rt, keeper, owner, (250, SteeringFault::Foreign))?;
+    let owner = unsteered(rt, keeper, owner, (250, SteeringFault::Foreign));
     assert_same(rt, &owner.front(), &1);
-    Ok(())
 }
 
 /// Returns the caller for which no discipline is opened at this `hz`, with this fault.
@@ -260,12 +250,9 @@ fn unsteered<L: Named>(
     keeper: &SharedKeeper<L, Ticker>,
     owner: Caller<L>,
     (hz, fault): (u32, SteeringFault),
-) -> Result<Caller<L>, Fail> {
-    match SharedSteering::open(rt, keeper, owner, hz) {
-        Ok(_) => Err(Fail::from("a discipline")),
-        Err(unsteered) => {
-            assert_same(rt, &unsteered.fault, &fault);
-            Ok(unsteered.caller)
-        }
-    }
+) -> Caller<L> {
+    let opened = SharedSteering::open(rt, keeper, owner, hz);
+    let unsteered = opened.err().expect(rt, "a fault");
+    assert_same(rt, &unsteered.fault, &fault);
+    unsteered.caller
 }

@@ -10,7 +10,6 @@ use std::marker::Brand;
 use std::process::Abort;
 use std::sync::Wait;
 use std::sync::atomic::{AtomicU64, Ordering};
-use std::test::Fail;
 use std::thread::{self, Threads};
 use tk_clock::{ClockId, Snapshot};
 use tk_now::SharedTicker;
@@ -114,15 +113,16 @@ fn asks<L: Named, C: Counter, R: Wait>(
 }
 
 #[test]
-fn readers_see_no_time_fall_and_no_tai_leap(rt: HostRuntime) -> Result<(), Fail> {
+fn readers_see_no_time_fall_and_no_tai_leap(rt: HostRuntime) {
     let board = Board {
         counter: SharedTicker::new(0, STEP),
         times: RisingTimes::new(),
         ended: AtomicU64::new(0),
     };
-    let counter = SharedReader::new(rt.alloc(), &board.counter)?;
-    let prepared = ready(&rt, rt.alloc(), counter, 3)?;
-    all_act::<Brand, _, _>(&rt, rt.alloc(), &board, prepared)
+    let counter = SharedReader::new(rt.alloc(), &board.counter);
+    let counter = counter.expect(&rt, "memory");
+    let prepared = ready(&rt, rt.alloc(), counter, 3);
+    all_act::<Brand, _, _>(&rt, rt.alloc(), &board, prepared);
 }
 
 fn all_act<L: Named + Send + Sync, C: Counter, R: Threads + Wait + Abort + Sync>(
@@ -130,11 +130,11 @@ fn all_act<L: Named + Send + Sync, C: Counter, R: Threads + Wait + Abort + Sync>
     alloc: Global,
     board: &Board,
     prepared: Prepared<C>,
-) -> Result<(), Fail>
+)
     requires named { IsNamed prepared L.page L.latch L.notice L.name L.parts L.callers }
 {
-    let (keeper, mut callers) = opened::<L, C>(alloc, prepared)?;
-    three_act(rt, &keeper, &mut callers, board)
+    let (keeper, mut callers) = opened::<L, C>(rt, alloc, prepared);
+    three_act(rt, &keeper, &mut callers, board);
 }
 
 /// Lets the owner act while the other two callers read.
@@ -143,8 +143,8 @@ fn three_act<L: Named + Send + Sync, C: Counter, R: Threads + Wait + Abort + Syn
     keeper: &SharedKeeper<L, C>,
     callers: &mut Vec<Caller<L>>,
     board: &Board,
-) -> Result<(), Fail> {
-    let mut steering = steered(rt, keeper, callers)?;
+) {
+    let mut steering = steered(rt, keeper, callers);
     assert_same(rt, &announce(&mut steering), &true);
     let owner = &mut steering;
     let (seconds, _) = thread::join(
@@ -153,7 +153,6 @@ fn three_act<L: Named + Send + Sync, C: Counter, R: Threads + Wait + Abort + Syn
         move || both_read(rt, keeper, callers, board),
     );
     assert_same(rt, &(seconds, board.times.faults()), &(SECONDS, 0));
-    Ok(())
 }
 
 /// Lets two callers read at once.
