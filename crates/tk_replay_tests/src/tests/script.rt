@@ -10,7 +10,6 @@ mod running;
 mod scripts;
 
 use super::{assert_lines, assert_same};
-use std::alloc::{AllocError, Global};
 use std::process::Abort;
 use tk_clock::{ClockId, Command, Timespec};
 use tk_script::{Row, Script, Start};
@@ -61,10 +60,10 @@ fn assert_opened(
 }
 
 /// Returns a text and a later one after it.
-fn joined(alloc: Global, first: &[u8], later: &[u8]) -> Result<Vec<u8>, AllocError> {
-    let mut bytes = first.to_vec(alloc)?;
-    bytes.extend_from_slice(later)?;
-    Ok(bytes)
+fn joined(rt: &(impl Abort + AllocGlobal), first: &[u8], later: &[u8]) -> Vec<u8> {
+    let mut bytes = first.to_vec(rt.alloc()).expect(rt, "memory");
+    bytes.extend_from_slice(later).expect(rt, "memory");
+    bytes
 }
 
 fn time(sec: i64, nsec: u32) -> Timespec {

@@ -281,16 +281,26 @@ fn assert_two(rt: &impl Abort, outcomes: &[Outcome], wanted: &[Outcome]) {
     }
 }
 
+/// Stops the test unless two workers give these outcomes of `two`, or the allocation of the results
+/// or a thread fails.
+fn assert_two_or_none(
+    rt: &(impl Abort + AllocGlobal + Threads + Wait + Sync),
+    scripts: &[Vec<u8>],
+    wanted: &[Outcome],
+) {
+    let gate = Notes::new();
+    match all_of(rt, scripts, 2, &gate) {
+        Ok(outcomes) => assert_two(rt, outcomes.as_slice(), wanted),
+        Err(ManyError::Memory) => assert_called_once(rt, &gate, 0, 0),
+        Err(error) => assert_same(rt, &error, &ManyError::Threads),
+    }
+}
+
 #[test]
 fn many_reports_or_want_of_them(rt: HostRuntime) {
     let alloc = rt.alloc();
     if let (Ok(scripts), Ok(wanted)) = (two(alloc), two_outcomes(alloc)) {
-        let gate = Notes::new();
-        match all_of(&rt, scripts.as_slice(), 2, &gate) {
-            Ok(outcomes) => assert_two(&rt, outcomes.as_slice(), wanted.as_slice()),
-            Err(ManyError::Memory) => assert_called_once(&rt, &gate, 0, 0),
-            Err(error) => assert_same(&rt, &error, &ManyError::Threads),
-        }
+        assert_two_or_none(&rt, scripts.as_slice(), wanted.as_slice());
     }
 }
 

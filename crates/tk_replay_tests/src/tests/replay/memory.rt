@@ -8,7 +8,7 @@ use std::process::Abort;
 use std::thread::Threads;
 use tk_clock::ClockId;
 use tk_keeper::Timekeeper;
-use tk_replay::{Fault, convert, keeper_after, keeper_of, report_rows};
+use tk_replay::{CheckedReport, Fault, convert, keeper_after, keeper_of, report_rows};
 use tk_script::{RowReader, ScriptError, Stamps};
 use tk_test_support::Heap;
 
@@ -92,45 +92,48 @@ update,1\nupdate,2\nupdate,3\nupdate,4\nupdate,5\nget,5,realtime\nupdate,6\nupda
 update,8\nupdate,9\nget,86400000000000,realtime\nget,86400000000000,tai\nupdate,10\n";
 
 /// The clocks after `DATED`.
-fn dated_keeper(alloc: Global) -> Result<Timekeeper, ScriptError> {
-    keeper_of(alloc, DATED)
+fn dated_keeper(rt: &(impl Abort + AllocGlobal)) -> Timekeeper {
+    keeper_of(rt.alloc(), DATED).expect(rt, "a keeper")
 }
 
 /// The lines of stamps by the journal of `DATED`, out of the heap.
 fn lines<'h>(
     heap: &'h Heap<Global>,
-    rt: &(impl AllocGlobal + Threads + Sync),
+    rt: &(impl Abort + AllocGlobal + Threads + Sync),
     stamps: &[u8],
 ) -> Result<Vec<u8, &'h Heap<Global>>, Fault> {
-    lines_by(heap, rt, &dated_keeper(rt.alloc())?, stamps)
+    lines_by(heap, rt, &dated_keeper(rt), stamps)
 }
 
 /// The lines of stamps by this journal, out of the heap.
 fn lines_by<'h>(
     heap: &'h Heap<Global>,
-    rt: &(impl AllocGlobal + Threads + Sync),
+    rt: &(impl Abort + AllocGlobal + Threads + Sync),
     keeper: &Timekeeper,
     stamps: &[u8],
 ) -> Result<Vec<u8, &'h Heap<Global>>, Fault> {
-    let items = Stamps::from_bytes(rt.alloc(), stamps)?;
+    let items = Stamps::from_bytes(rt.alloc(), stamps).expect(rt, "stamps");
     convert(heap, rt, keeper, &items, ClockId::Monotonic)
 }
 
 /// The report of `DATED`, out of the heap.
 fn text_of<'h>(
     heap: &'h Heap<Global>,
-    alloc: Global,
+    rt: &(impl Abort + AllocGlobal),
     is_bounded: bool,
-) -> Result<Vec<u8, &'h Heap<Global>>, ScriptError> {
-    let (start, mut rows) = RowReader::open(alloc, DATED)?;
+) -> Result<CheckedReport<&'h Heap<Global>>, ScriptError> {
+    let (start, mut rows) = RowReader::open(rt.alloc(), DATED).expect(rt, "a script");
     let keep = if is_bounded { Some(1) } else { None };
-    Ok(report_rows(heap, start, &mut rows, keep)?.text)
+    report_rows(heap, start, &mut rows, keep)
 }
 
-/// Returns the number of accepted commands of `DATED`, with a journal out of the heap.
-fn accepted(heap: &Heap<Global>, alloc: Global) -> Result<usize, ScriptError> {
-    let (start, mut rows) = RowReader::open(alloc, DATED)?;
-    Ok(keeper_after(heap, start, &mut rows)?.len())
+/// Returns the keeper after `DATED`, with a journal out of the heap.
+fn kept_of<'h>(
+    heap: &'h Heap<Global>,
+    rt: &(impl Abort + AllocGlobal),
+) -> Result<Timekeeper<&'h Heap<Global>>, ScriptError> {
+    let (start, mut rows) = RowReader::open(rt.alloc(), DATED).expect(rt, "a script");
+    keeper_after(heap, start, &mut rows)
 }
 
 /// The work during which allocations fail.
@@ -150,11 +153,8 @@ at,tai,1700086400.000000000\nok,11,0.000000010\n";
 
 /// The text is the report of `DATED`.
 fn assert_dated(rt: &(impl Abort + AllocGlobal), text: &[u8]) {
-    let alone = reported(rt.alloc(), false, DATED);
-    assert!(rt; alone.is_ok());
-    if let Ok(alone) = alone {
-        assert_same(rt, &text, &alone.as_slice());
-    }
+    let alone = reported(rt.alloc(), false, DATED).expect(rt, "a report");
+    assert_same(rt, &text, &alone.as_slice());
     assert!(rt; text.ends_with(DATED_END));
 }
 
@@ -166,9 +166,9 @@ impl Work {
         heap: &Heap<Global>,
     ) -> Result<(), Fault> {
         match self {
-            Work::Report => assert_dated(rt, text_of(heap, rt.alloc(), false)?.as_slice()),
-            Work::BoundedReport => assert_dated(rt, text_of(heap, rt.alloc(), true)?.as_slice()),
-            Work::Journal => assert_same(rt, &accepted(heap, rt.alloc())?, &11),
+            Work::Report => assert_dated(rt, text_of(heap, rt, false)?.text.as_slice()),
+            Work::BoundedReport => assert_dated(rt, text_of(heap, rt, true)?.text.as_slice()),
+            Work::Journal => assert_same(rt, &kept_of(heap, rt)?.len(), &11),
             Work::Lines => {
                 let text = lines(heap, rt, b"11,12\n1,7\n10,1000\n")?;
                 assert_same(rt, &text.as_slice(), &b"12\n7\n1000\n".as_slice());

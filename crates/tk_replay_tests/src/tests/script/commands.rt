@@ -7,11 +7,8 @@ use tk_script::{Row, Script, ScriptError};
 
 /// Stops the test if one record after an opening gives another row.
 fn assert_row(rt: &(impl Abort + AllocGlobal), record: &[u8], row: Row) {
-    let bytes = joined(rt.alloc(), OPENING, record);
-    assert!(rt; bytes.is_ok());
-    if let Ok(bytes) = bytes {
-        assert_rows(rt, bytes.as_slice(), [row].as_slice());
-    }
+    let bytes = joined(rt, OPENING, record);
+    assert_rows(rt, bytes.as_slice(), [row].as_slice());
 }
 
 #[test]
@@ -79,12 +76,9 @@ fn reads_an_expected_value(rt: HostRuntime) {
 
 /// Stops the test unless one record after an opening has this fault.
 fn assert_fault(rt: &(impl Abort + AllocGlobal), record: &[u8], fault: ScriptError) {
-    let bytes = joined(rt.alloc(), OPENING, record);
-    assert!(rt; bytes.is_ok());
-    if let Ok(bytes) = bytes {
-        let error = Script::from_bytes(rt.alloc(), bytes.as_slice()).err();
-        assert_same(rt, &error, &Some(fault));
-    }
+    let bytes = joined(rt, OPENING, record);
+    let error = Script::from_bytes(rt.alloc(), bytes.as_slice()).err();
+    assert_same(rt, &error, &Some(fault));
 }
 
 #[test]
@@ -136,16 +130,13 @@ fn reads_the_greatest_and_the_least_numbers(rt: HostRuntime) {
 
 #[test]
 fn reads_a_change_of_counter(rt: HostRuntime) {
-    let desc = CounterDesc::new(64, 4_194_304, 22);
-    assert!(rt; desc.is_ok());
-    if let Ok(desc) = desc {
-        let row = Row::Change {
-            reading: 9,
-            desc,
-            first: u64::MAX,
-        };
-        assert_row(&rt, b"counter,9,64,4194304,22,18446744073709551615", row);
-    }
+    let desc = CounterDesc::new(64, 4_194_304, 22).expect(&rt, "a counter");
+    let row = Row::Change {
+        reading: 9,
+        desc,
+        first: u64::MAX,
+    };
+    assert_row(&rt, b"counter,9,64,4194304,22,18446744073709551615", row);
 }
 
 /// A request whose fields all differ.

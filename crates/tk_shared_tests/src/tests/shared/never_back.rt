@@ -10,7 +10,6 @@ use std::marker::Brand;
 use std::process::Abort;
 use std::sync::Wait;
 use std::sync::atomic::{AtomicU64, Ordering};
-use std::test::Fail;
 use std::thread::{self, Threads};
 use tk_clock::{ClockId, Command, ReadError, Refusal, Timespec};
 use tk_counter::CounterDesc;
@@ -135,17 +134,16 @@ fn command_of(turn: u64) -> Command {
 }
 
 #[test]
-fn no_answer_is_below_an_earlier_one(rt: HostRuntime) -> Result<(), Fail> {
+fn no_answer_is_below_an_earlier_one(rt: HostRuntime) {
     let board = Board {
         counter: SharedTicker::new(START, STEP),
         times: RisingTimes::new(),
         asking: AtomicU64::new(4),
     };
-    let desc = CounterDesc::new(48, 16_777_216, 24)?;
-    let counter = SharedReader::new(rt.alloc(), &board.counter)?;
+    let desc = CounterDesc::new(48, 16_777_216, 24).expect(&rt, "a counter");
+    let counter = SharedReader::new(rt.alloc(), &board.counter).expect(&rt, "memory");
     let prepared = ready_on(&rt, rt.alloc(), desc, counter, 6);
     all_play::<Brand, _, _>(&rt, rt.alloc(), prepared, &board);
-    Ok(())
 }
 
 /// Lets two callers play at once.

@@ -5,7 +5,6 @@ use super::{assert_same, commanded, opened, read_by, ready, ready_on, time};
 use std::marker::Brand;
 use std::process::Abort;
 use std::sync::Wait;
-use std::test::Fail;
 use tk_clock::{ClockId, Command, Refusal};
 use tk_counter::CounterDesc;
 use tk_now::Look;
@@ -57,19 +56,19 @@ fn updates<C: Counter, R: Wait + Abort + AllocGlobal>(
     rt: &R,
     prepared: Prepared<C>,
     wanted: Updated,
-) -> Result<(), Fail> {
-    updates_named::<Brand, C, R>(rt, prepared, wanted)
+) {
+    updates_named::<Brand, C, R>(rt, prepared, wanted);
 }
 
 fn updates_named<L: Named, C: Counter, R: Wait + Abort + AllocGlobal>(
     rt: &R,
     prepared: Prepared<C>,
     wanted: Updated,
-) -> Result<(), Fail>
+)
     requires named { IsNamed prepared L.page L.latch L.notice L.name L.parts L.callers }
 {
     let (keeper, mut callers) = opened::<L, C>(rt, rt.alloc(), prepared);
-    updates_by(rt, &keeper, callers.as_mut_slice(), wanted)
+    updates_by(rt, &keeper, callers.as_mut_slice(), wanted);
 }
 
 fn updates_by<L: Named, C: Counter, R: Wait + Abort>(
@@ -77,24 +76,23 @@ fn updates_by<L: Named, C: Counter, R: Wait + Abort>(
     keeper: &SharedKeeper<L, C>,
     callers: &mut [Caller<L>],
     wanted: Updated,
-) -> Result<(), Fail> {
+) {
     let Updated {
         answer,
         last,
         nanos,
     } = wanted;
-    let caller = callers.first_mut().ok_or("a caller")?;
+    let caller = callers.first_mut().expect(rt, "a caller");
     assert_same(rt, &commanded(rt, keeper, caller, Command::Update), &answer);
     let seen = read_by(rt, keeper, caller);
     assert_same(rt, &seen.front(), &answer.unwrap_or(0));
     assert_same(rt, &caller.accepted(), &seen.front());
     assert_same(rt, &seen.last(), &last);
     assert_same(rt, &seen.get(ClockId::Monotonic, last), &Ok(time(0, nanos)));
-    Ok(())
 }
 
 #[test]
-fn a_counter_that_runs_back_is_refused(rt: HostRuntime) -> Result<(), Fail> {
+fn a_counter_that_runs_back_is_refused(rt: HostRuntime) {
     let counter = Answers {
         first: Some(3_000),
         others: 2_999,
@@ -105,32 +103,32 @@ fn a_counter_that_runs_back_is_refused(rt: HostRuntime) -> Result<(), Fail> {
         last: 3_000,
         nanos: 0,
     };
-    updates(&rt, prepared, refused)
+    updates(&rt, prepared, refused);
 }
 
 #[test]
-fn answers_above_the_mask_are_masked(rt: HostRuntime) -> Result<(), Fail> {
+fn answers_above_the_mask_are_masked(rt: HostRuntime) {
     let counter = Answers {
         first: Some((1 << 32) + 5),
         others: (1 << 63) + 7,
     };
     let prepared = ready(&rt, rt.alloc(), counter, 1);
-    updates(&rt, prepared, accepted(7, 2))
+    updates(&rt, prepared, accepted(7, 2));
 }
 
 #[test]
-fn readings_of_48_bits_keep_their_upper_bits(rt: HostRuntime) -> Result<(), Fail> {
-    let desc = CounterDesc::new(48, 16_777_216, 24)?;
+fn readings_of_48_bits_keep_their_upper_bits(rt: HostRuntime) {
+    let desc = CounterDesc::new(48, 16_777_216, 24).expect(&rt, "a counter");
     let start = (1 << 32) + 5;
     let prepared = ready_on(&rt, rt.alloc(), desc, Ticker::new(start, 1_000), 1);
     let wanted = accepted((1 << 32) + 1_005, 1_000);
-    updates(&rt, prepared, wanted)
+    updates(&rt, prepared, wanted);
 }
 
 #[test]
-fn a_ticker_wraps_at_64_bits(rt: HostRuntime) -> Result<(), Fail> {
+fn a_ticker_wraps_at_64_bits(rt: HostRuntime) {
     let mut ticker = Ticker::new(u64::MAX - 999, 1_000);
     assert_same(&rt, &(ticker.read(), ticker.read()), &(u64::MAX - 999, 0));
     let prepared = ready(&rt, rt.alloc(), Ticker::new(u64::MAX - 999, 1_000), 1);
-    updates(&rt, prepared, accepted(0, 1_000))
+    updates(&rt, prepared, accepted(0, 1_000));
 }

@@ -6,7 +6,6 @@ use std::alloc::Global;
 use std::marker::Brand;
 use std::process::Abort;
 use std::sync::Wait;
-use std::test::Fail;
 use std::time::Instant;
 use tk_clock::{ClockId, Command, ReadError, Refusal, Timespec};
 use tk_counter::CounterDesc;
@@ -63,16 +62,11 @@ fn seconds() -> [Turn; 17] {
 }
 
 #[test]
-fn the_time_now_is_exact(rt: HostRuntime) -> Result<(), Fail> {
+fn the_time_now_is_exact(rt: HostRuntime) {
     // 32 bits: the greatest reading is 4,294,967,295
-    let desc = CounterDesc::from_hz(32, 1_000_000, 600)?;
-    all_turns(
-        &rt,
-        rt.alloc(),
-        desc,
-        (4_293_500_000, 1_000_000),
-        &seconds(),
-    )
+    let desc = CounterDesc::from_hz(32, 1_000_000, 600).expect(&rt, "a counter");
+    let readings = (4_293_500_000, 1_000_000);
+    all_turns(&rt, rt.alloc(), desc, readings, &seconds());
 }
 
 /// One turn per 500,000,000 s. MONOTONIC ends at 946,080,000 s, and BOOTTIME at 9,223,372,036 s.
@@ -87,10 +81,10 @@ fn long_turns() -> [Turn; 5] {
 }
 
 #[test]
-fn a_clock_at_its_limit_has_no_time_now(rt: HostRuntime) -> Result<(), Fail> {
-    let desc = CounterDesc::new(64, 16_777_216, 24)?;
+fn a_clock_at_its_limit_has_no_time_now(rt: HostRuntime) {
+    let desc = CounterDesc::new(64, 16_777_216, 24).expect(&rt, "a counter");
     let readings = (0, 500_000_000_000_000_000);
-    all_turns(&rt, rt.alloc(), desc, readings, &long_turns())
+    all_turns(&rt, rt.alloc(), desc, readings, &long_turns());
 }
 
 /// Takes these turns on a counter that begins with the first of `readings`, and adds the second to
@@ -101,13 +95,12 @@ fn all_turns<R: Wait + Abort>(
     desc: CounterDesc,
     readings: (u64, u64),
     turns: &[Turn],
-) -> Result<(), Fail> {
+) {
     let (first, step) = readings;
     let ticker = SharedTicker::new(first, step);
-    let counter = SharedReader::new(alloc, &ticker)?;
+    let counter = SharedReader::new(alloc, &ticker).expect(rt, "memory");
     let prepared = ready_on(rt, alloc, desc, counter, 2);
     all_turns_named::<Brand, _, _, R>(rt, alloc, prepared, &ticker, turns);
-    Ok(())
 }
 
 fn all_turns_named<L: Named, C: Counter, S: SharedCounter, R: Wait + Abort>(
@@ -156,14 +149,13 @@ fn takes_turn<L: Named, C: Counter, S: SharedCounter, R: Wait + Abort>(
 }
 
 #[test]
-fn the_time_now_rises_with_the_hosts_clock(rt: HostRuntime) -> Result<(), Fail> {
-    let start = Instant::now(&rt)?;
+fn the_time_now_rises_with_the_hosts_clock(rt: HostRuntime) {
+    let start = Instant::now(&rt).expect(&rt, "a time");
     let host = HostCounter::new(&rt, start);
-    let desc = CounterDesc::from_hz(64, 1_000_000_000, 600)?;
-    let counter = SharedReader::new(rt.alloc(), &host)?;
+    let desc = CounterDesc::from_hz(64, 1_000_000_000, 600).expect(&rt, "a counter");
+    let counter = SharedReader::new(rt.alloc(), &host).expect(&rt, "memory");
     let prepared = ready_on(&rt, rt.alloc(), desc, counter, 2);
     rises::<Brand, _, _, _>(&rt, prepared, &host);
-    Ok(())
 }
 
 fn rises<L: Named, C: Counter, S: SharedCounter, R: Wait + Abort + AllocGlobal>(
