@@ -7,6 +7,7 @@ mod files;
 mod many;
 mod marks;
 mod memory;
+mod notes;
 mod streams;
 mod traces;
 
