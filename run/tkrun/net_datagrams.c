@@ -102,11 +102,12 @@ static size_t put_control(const struct datagram *datagram, char *control)
 	const struct message *message = &datagram->message;
 	const uint32_t no_stamps = 0;
 	struct cmsghdr stamps = { CMSG_LEN(sizeof(no_stamps)), SOL_SOCKET, SO_TIMESTAMPING_OLD };
-	size_t length = message->control_length;
+	size_t length = 0;
 
-	memcpy(control, datagram->bytes, length);
-	if (!length && has_no_address(datagram->sender->file))
+	if (has_no_address(datagram->sender->file))
 		length = put_source(control, message);
+	memcpy(control + length, datagram->bytes, message->control_length);
+	length += message->control_length;
 	if (node_machine(message->node)->shared->has_stamps)
 		length = put_part(control, length, &stamps, &no_stamps);
 	return length;

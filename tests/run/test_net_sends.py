@@ -51,6 +51,18 @@ class Sends(LinkTest):
                             [name, SECOND + 1 + 20 * MILLI] for text, name in zip(texts, names)]
                 self.assertEqual(out["b"], expected)
 
+    def test_control_data_without_an_address(self):
+        # the node's address sends: IP_TTL and IPV6_HOPLIMIT don't change that
+        out = self.on_links(["a,b"], {
+            "b": "s = udp(*AT_B)\nfor i in range(2): print(s.recvfrom(9)[1][0])",
+            "a": """
+                part = (41, 52) if FAMILY == socket.AF_INET6 else (0, 2)
+                time.sleep(1)
+                for s in udp(), udp(ANY, PORT + 1):
+                    s.sendmsg([b"1"], [(*part, struct.pack("i", 9))], 0, AT_B)
+                """})
+        self.assertEqual(out["b"], [[self.addresses["a"]]] * 2)
+
     def test_memory_that_is_not_there(self):
         # each call returns what it returns on the host, and what was sent there arrives
         host = call([*self.network, sys.executable, "-c", ON_HOST.format(
