@@ -81,6 +81,7 @@ enum found { FOUND_NONE, FOUND_ONE, FOUND_UNKNOWN };
 /* A socket in the kernel's list. */
 struct listed {
 	struct endpoint name;
+	bool is_six_only; /* one of IPv6 that takes no IPv4 */
 	uint32_t inode;
 };
 

@@ -5,6 +5,7 @@
 
 #include <linux/inet_diag.h>
 #include <linux/netlink.h>
+#include <linux/rtnetlink.h>
 #include <linux/sock_diag.h>
 #include <string.h>
 #include <unistd.h>
@@ -28,16 +29,21 @@ static bool ask(int file, const struct port *port, uint8_t family)
 	return send(file, &ask, sizeof(ask), 0) == sizeof(ask);
 }
 
-/* Returns what the kernel says of a socket. */
+/* Returns what the kernel says of a socket. Of those that take no IPv4, it is an attribute. */
 static struct listed describe(struct nlmsghdr *head)
 {
 	const struct inet_diag_msg *found = NLMSG_DATA(head);
-	struct listed listed = { { NO_ADDRESS, found->id.idiag_sport }, found->idiag_inode };
+	struct rtattr *part = (struct rtattr *)(found + 1);
+	size_t left = head->nlmsg_len - NLMSG_LENGTH(sizeof(*found));
+	struct listed listed = { { NO_ADDRESS, found->id.idiag_sport }, false, found->idiag_inode };
 
 	if (found->idiag_family == AF_INET)
 		listed.name.address = address_of_four(found->id.idiag_src[0]);
 	else
 		memcpy(&listed.name.address, found->id.idiag_src, sizeof(listed.name.address));
+	for (; RTA_OK(part, left); part = RTA_NEXT(part, left))
+		listed.is_six_only |= part->rta_type == INET_DIAG_SKV6ONLY &&
+				      *(const uint8_t *)RTA_DATA(part);
 	return listed;
 }
 

@@ -46,7 +46,9 @@ bool net_gets(const struct listed *found, const struct endpoint *name)
 
 	if (found->name.port != name->port)
 		return false;
-	return address_is_none(own) || address_is_same(own, name->address) ||
+	if (address_is_none(own))
+		return !is_four || !found->is_six_only;
+	return address_is_same(own, name->address) ||
 	       (is_four && address_is_same(own, address_of_four(INADDR_ANY)));
 }
 

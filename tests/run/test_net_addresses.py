@@ -47,6 +47,16 @@ class Both(BothFamilies):
                                     [four["a"], four["b"], 5 * SECOND],
                                     [four["a"], four["b"], 7 * SECOND]])
 
+    def test_a_server_of_ipv6_only(self):
+        out = self.on_links(["a,b,delay=1"], {
+            "b": "l = server((ANY, PORT)); show(l.accept()[1][0])", "a": """
+            for family, name in [(socket.AF_INET, FOUR_B), (FAMILY, "::ffff:" + FOUR_B),
+                                 (FAMILY, B)]:
+                print(errno.errorcode.get(socket.socket(family).connect_ex((name, PORT))))
+            """})
+        self.assertEqual(out["a"], [["ECONNREFUSED"], ["ECONNREFUSED"], ["None"]])
+        self.assertEqual(out["b"], [[SIX["a"], 7 * SECOND]])
+
     def test_one_rate_and_one_cut_for_both(self):
         # 1,250 bytes at 1 Mbit/s take 10 ms each
         plan = self.file("plan", "at 2 partition a b\n")
