@@ -91,7 +91,9 @@ static bool open_guard(struct connection *connection)
 	if (!is_four)
 		net_note_relay(link, connection->guard_name.port, connection->client, port);
 	connection->filler = net_make_socket(name.address);
-	net_call_with(connect, connection->filler, &connection->guard_name);
+	if (net_call_with(connect, connection->filler, &connection->guard_name) &&
+	    errno != EINPROGRESS)
+		return false;
 	return !net_state_of(connection->filler, WAIT_MILLIS);
 }
 

@@ -120,6 +120,27 @@ class FewPorts(BySix, LinkTest):
             """})
         self.assertEqual(out["a"], [[10], [10]])
 
+    def test_more_connections_than_ports(self):
+        out = self.on_links(["a,b,delay=1ms"], {
+            "b": """
+            l, all = server(AT_B, backlog=99), []
+            while not all or all[-1].recv(9) != b"all": all.append(l.accept()[0])
+            for s in all: s.close()
+            time.sleep(9)
+            """, "a": """
+            time.sleep(1)
+            made, errors = [], set()
+            for i in range(12):
+                s = tcp(); error = s.connect_ex(AT_B)
+                if error: errors.add(errno.errorcode[error])
+                else: made.append(s)
+            print(4 < len(made) < 11, errors)
+            for s in made[:-1]: s.close()
+            made[-1].send(b"all"); made[-1].recv(9); made[-1].close()
+            time.sleep(1); s = tcp(); print(s.connect_ex(AT_B), s.getpeername()[:2] == AT_B)
+            """})
+        self.assertEqual(out["a"], [["True", "{'ENOBUFS'}"], [0, "True"]])
+
 
 if __name__ == "__main__":
     unittest.main()
