@@ -3,6 +3,7 @@
 #define _GNU_SOURCE
 #include "connection.h"
 
+#include "address.h"
 #include "host.h"
 
 #include <errno.h>
@@ -11,9 +12,7 @@
 #include <linux/rtnetlink.h>
 #include <linux/sock_diag.h>
 #include <linux/tcp.h>
-#include <netinet/in.h>
 #include <string.h>
-#include <sys/socket.h>
 #include <sys/syscall.h>
 
 enum {
@@ -21,14 +20,8 @@ enum {
 	STATES_WITH_BYTES = 1 << 1 | 1 << 4 | 1 << 5 | 1 << 8, /* established, and half closed */
 };
 
-union name {
-	struct sockaddr any;
-	struct sockaddr_in four;
-	struct sockaddr_in6 six;
-};
-
 /* Stores an address. One of IPv6 may contain one of IPv4. Returns its family. */
-static int put_address(const union name *name, uint32_t words[4], uint16_t *port)
+static int put_address(const union socket_name *name, uint32_t words[4], uint16_t *port)
 {
 	*port = name->four.sin_port;
 	if (name->any.sa_family == AF_INET) {
@@ -45,7 +38,7 @@ static int put_address(const union name *name, uint32_t words[4], uint16_t *port
 /* Stores the names of the other end. Returns its family, or 0 if there is none. */
 static int name_other_end(int file, struct inet_diag_sockid *id)
 {
-	union name own = { 0 }, other = { 0 };
+	union socket_name own = { 0 }, other = { 0 };
 	socklen_t own_size = sizeof(own), other_size = sizeof(other);
 	int family;
 

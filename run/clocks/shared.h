@@ -9,6 +9,8 @@
 #ifndef SHARED_H
 #define SHARED_H
 
+#include "address.h"
+
 #include <pthread.h>
 #include <stdatomic.h>
 #include <stdbool.h>
@@ -16,7 +18,7 @@
 #include <tkcore_page.h>
 
 enum {
-	MACHINE_LAYOUT = 0x746b7207,
+	MACHINE_LAYOUT = 0x746b7208,
 	WAITERS_MOST = 32768,
 };
 
@@ -40,14 +42,28 @@ struct shared_lines {
 
 enum { PEERS_MOST = 64 };
 
-/* The addresses of IPv4, in the network's order, of a node with links, or 0, and of the nodes to
- * which it has a link, by their numbers minus 1. With --stamps, a sink drops the copies of
- * datagrams that are sent for their stamps: its port and address, in the network's order. */
+/* The addresses of a node with links, or none, and of the nodes to which it has a link, by their
+ * numbers minus 1. With --stamps, a sink of each family drops the copies of datagrams that are sent
+ * for their stamps. */
 struct peers {
-	uint32_t own, count, of[PEERS_MOST];
-	uint32_t sink_address;
-	uint16_t sink_port;
-	bool binds_own; /* a socket that is bound to no address gets the node's */
+	uint32_t count;
+	struct address own[FAMILIES], of[FAMILIES][PEERS_MOST];
+	struct endpoint sinks[FAMILIES];
+	bool binds_own;	 /* a socket that is bound to no address gets the node's */
+	bool has_relays; /* a struct relays is there */
+};
+
+/*
+ * If a node with links has an address of IPv6: its connections of IPv6, by the port of tkrun's end.
+ * `cookie` is the kernel's number of the client's socket, which no other socket ever has, and
+ * `server` is the server's node, shifted by 16 bits, and its port. `server` is written first.
+ */
+enum { RELAYS = 65536 };
+struct relays {
+	struct relay {
+		_Atomic uint64_t cookie;
+		_Atomic uint32_t server;
+	} of[RELAYS];
 };
 
 /*
@@ -81,7 +97,6 @@ struct shared_page {
 	uint64_t update_nanos;	/* the span between two updates */
 	uint32_t node;		/* the number of the node: 0 for the program's clocks */
 	uint64_t read_cost;	/* the cycles by which a read moves a counter of sleeps */
-	struct peers peers;
 
 	_Alignas(64) struct tkc_page page;
 	struct next_second seconds[2]; /* of the page's copies */
@@ -90,8 +105,15 @@ struct shared_page {
 	_Atomic int32_t leap;
 	_Alignas(64) _Atomic uint64_t cycles;
 	_Alignas(64) _Atomic uint32_t generation; /* who isn't listed looks again */
-	_Alignas(64) struct file_times file_times[]; /* one with --file-times, or none */
+	struct peers peers;
+	/* one with --file-times, or none; a struct relays follows, if the node has one */
+	_Alignas(64) struct file_times file_times[];
 };
+
+static inline struct relays *shared_relays(struct shared_page *shared)
+{
+	return (struct relays *)(shared->file_times + shared->has_file_times);
+}
 
 /* The signal by which tkrun ends a wait for something that isn't only a time. */
 #define WAKE_SIGNAL 63

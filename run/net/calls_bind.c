@@ -4,35 +4,41 @@
 #include "net.h"
 #include "clocks/machine.h"
 
-#include <string.h>
-
-/* Returns whether a socket of IPv6 takes no IPv4. */
-static bool is_six_only(int file)
+/* Returns the address of the node that a socket gets which is bound to none, or none. One of IPv6
+ * that takes IPv4 gets that of IPv4 only if the node has no other. */
+static struct address own_for(int file, int domain)
 {
-	int value = 0;
-	socklen_t length = sizeof(value);
+	const struct address *own = net_peers()->own;
 
-	host_call(SYS_getsockopt, file, IPPROTO_IPV6, IPV6_V6ONLY, (long)&value, (long)&length, 0);
-	return value;
+	if (domain == AF_INET || (address_is_none(own[FAMILY_SIX]) && !net_is_six_only(file)))
+		return own[FAMILY_FOUR];
+	return own[FAMILY_SIX];
 }
 
-/* Stores a name with the address of the node instead of none. Returns false if it has one. */
-static bool put_own(int file, const struct sockaddr *name, socklen_t length,
-		    union socket_name *own)
+/* Returns whether a name has no address. */
+static bool is_any(const union socket_name *name, socklen_t length)
 {
-	memset(own, 0, sizeof(*own));
-	memcpy(own, name, length < sizeof(*own) ? length : sizeof(*own));
-	if (length >= sizeof(own->four) && own->any.sa_family == AF_INET &&
-	    !own->four.sin_addr.s_addr) {
-		own->four.sin_addr.s_addr = net_peers()->own;
-		return true;
-	}
-	if (length < sizeof(own->six) || own->any.sa_family != AF_INET6 ||
-	    !IN6_IS_ADDR_UNSPECIFIED(&own->six.sin6_addr) || is_six_only(file))
-		return false;
-	own->six.sin6_addr.s6_addr32[2] = htonl(0xffff);
-	own->six.sin6_addr.s6_addr32[3] = net_peers()->own;
-	return true;
+	if (length >= sizeof(name->four) && name->any.sa_family == AF_INET)
+		return name->four.sin_addr.s_addr == INADDR_ANY;
+	return length >= SIX_BYTES_LEAST && name->any.sa_family == AF_INET6 &&
+	       IN6_IS_ADDR_UNSPECIFIED(&name->six.sin6_addr);
+}
+
+/* Stores a name with the address of the node instead of none. Returns its length, or 0 if the name
+ * has an address, or the node has none for it. */
+static socklen_t put_own(int file, const struct sockaddr *name, socklen_t length,
+			 union socket_name *own)
+{
+	const union socket_name *given = (const union socket_name *)name;
+	struct endpoint wanted;
+
+	if (!is_any(given, length))
+		return 0;
+	wanted.address = own_for(file, given->any.sa_family);
+	wanted.port = given->four.sin_port;
+	return address_is_none(wanted.address)
+		       ? 0
+		       : endpoint_name(&wanted, given->any.sa_family, own);
 }
 
 EXPORT int bind(int file, __CONST_SOCKADDR_ARG to, socklen_t length)
@@ -40,9 +46,10 @@ EXPORT int bind(int file, __CONST_SOCKADDR_ARG to, socklen_t length)
 	const struct peers *peers = net_peers();
 	const struct sockaddr *name = to.__sockaddr__;
 	union socket_name own;
+	socklen_t own_length = 0;
 
-	if (!peers || !peers->binds_own || !net_can_read_name(name, length) ||
-	    !put_own(file, name, length, &own))
-		return REAL(bind)(file, to, length);
-	return REAL(bind)(file, (struct sockaddr *)&own, length);
+	if (peers && peers->binds_own && net_can_read_name(name, length))
+		own_length = put_own(file, name, length, &own);
+	return own_length ? REAL(bind)(file, (struct sockaddr *)&own, own_length)
+			  : REAL(bind)(file, to, length);
 }

@@ -1,7 +1,7 @@
 /* SPDX-License-Identifier: MIT OR Apache-2.0 */
 /*
  * calls_connect.c - connections. Those of UDP, and those within the node, get its address. Those of
- * TCP to other nodes are made by tkrun, and lead to it: its address stands for the server's.
+ * TCP to other nodes are made by tkrun, and lead to it: its end stands for the server.
  */
 #define _GNU_SOURCE
 #include "net.h"
@@ -44,13 +44,16 @@ static int wait_for_answer(int file)
 }
 
 /* Lets tkrun connect a socket. Returns 0 or an errno. */
-static int connect_over(int file, const struct sockaddr *to, socklen_t length, uint32_t address)
+static int connect_over(int file, const struct sockaddr *to, socklen_t length,
+			struct address address)
 {
 	struct message message = { .kind = MESSAGE_CONNECT, .node = net_node(), .address = address };
 	int error = failure_of(file), ends[BOTH], files[BOTH];
 
 	if (error)
 		return error;
+	if (address_is_none(net_own(address)))
+		return ENETUNREACH;
 	error = (int)-host_call(SYS_socketpair, AF_UNIX, SOCK_SEQPACKET | SOCK_CLOEXEC, 0,
 				(long)ends, 0, 0);
 	if (error)
@@ -67,33 +70,73 @@ static int connect_over(int file, const struct sockaddr *to, socklen_t length, u
 	return error;
 }
 
+/* Returns the type of a socket that may connect to an address by a name, or -1. */
+static int type_for(int file, const struct sockaddr *name, struct address address)
+{
+	int type = net_type(file);
+
+	return type >= 0 && net_takes(file, type, name->sa_family, address) ? type : -1;
+}
+
 EXPORT int connect(int file, __CONST_SOCKADDR_ARG to, socklen_t length)
 {
-	uint32_t address = net_address(to.__sockaddr__, length);
-	int type = address ? net_type(file) : -1, saved = errno, error;
-	bool is_own = net_is_own(to.__sockaddr__, length);
+	const struct sockaddr *name = to.__sockaddr__;
+	bool is_own = net_is_own(name, length);
+	const struct address address = is_own ? endpoint_of(name, length).address
+					      : net_address(name, length);
+	bool is_linked = !is_own && !address_is_none(address);
+	int type = is_own || is_linked ? type_for(file, name, address) : -1, saved = errno, error;
 
-	if (type == SOCK_DGRAM || is_own)
-		net_bind(file, net_peers()->own);
-	if (type != SOCK_STREAM || is_in_use(file)) {
+	if (is_linked && type == SOCK_DGRAM && address_is_none(net_own(address)))
+		return net_refuse(ENETUNREACH);
+	if (is_own ? type >= 0 : type == SOCK_DGRAM)
+		net_bind(file, net_own(address));
+	if (!is_linked || type != SOCK_STREAM || is_in_use(file)) {
 		error = REAL(connect)(file, to, length);
-		if (!address && !is_own && (!error || errno == EINPROGRESS))
-			net_note_stray(file, to.__sockaddr__, length);
+		if (!is_linked && !is_own && (!error || errno == EINPROGRESS))
+			net_note_stray(file, name, length);
 		return error;
 	}
-	error = connect_over(file, to.__sockaddr__, length, address);
+	error = connect_over(file, name, length, address);
 	errno = saved;
 	return error ? net_refuse(error) : 0;
 }
 
-/* Returns the address of the server for which tkrun's end of a connection stands, or 0. */
-static uint32_t server_of(uint32_t address)
+/* Stores the node, or 0, and the port of the server for which tkrun's end of a connection of IPv6
+ * stands. */
+static void find_six(int file, uint16_t port, size_t *node, uint16_t *server)
 {
-	const struct peers *peers = net_peers();
+	const struct relay *relay = net_relay(port);
+	uint64_t cookie = 0;
+	socklen_t length = sizeof(cookie);
+	uint32_t value;
 
-	if (!peers || !is_relay(address) || relay_node(address) > PEERS_MOST)
-		return 0;
-	return peers->of[relay_node(address) - 1];
+	host_call(SYS_getsockopt, file, SOL_SOCKET, SO_COOKIE, (long)&cookie, (long)&length, 0);
+	*node = 0;
+	if (!relay || !cookie || atomic_load(&relay->cookie) != cookie)
+		return;
+	value = atomic_load(&relay->server);
+	*node = value >> 16;
+	*server = (uint16_t)value;
+}
+
+/* Stores the server instead of tkrun's end of a connection. Returns false if it isn't such one. */
+static bool put_server(int file, struct endpoint *peer)
+{
+	int family = address_family(peer->address);
+	uint32_t four = peer->address.words[3];
+	size_t node = 0;
+
+	if (family == FAMILY_SIX && address_is_same(peer->address, RELAY_SIX)) {
+		find_six(file, peer->port, &node, &peer->port);
+	} else if (family == FAMILY_FOUR && is_relay(four)) {
+		node = relay_node(four);
+		peer->port = relay_port(four);
+	}
+	if (!node || node > PEERS_MOST)
+		return false;
+	peer->address = net_peers()->of[family][node - 1];
+	return !address_is_none(peer->address);
 }
 
 EXPORT int getpeername(int file, __SOCKADDR_ARG address, socklen_t *restrict length)
@@ -101,20 +144,15 @@ EXPORT int getpeername(int file, __SOCKADDR_ARG address, socklen_t *restrict len
 	union socket_name peer = { 0 };
 	socklen_t size = sizeof(peer), room = host_can_read(length, sizeof(*length)) ? *length : 0;
 	int result = REAL(getpeername)(file, address, length);
-	uint32_t found, *place = &peer.four.sin_addr.s_addr;
+	struct endpoint end;
 
 	if (result || !net_peers() ||
 	    host_call(SYS_getpeername, file, (long)&peer, (long)&size, 0, 0, 0))
 		return result;
-	if (peer.any.sa_family == AF_INET6 && IN6_IS_ADDR_V4MAPPED(&peer.six.sin6_addr))
-		place = &peer.six.sin6_addr.s6_addr32[3];
-	else if (peer.any.sa_family != AF_INET)
+	end = endpoint_of(&peer.any, size);
+	if (address_is_none(end.address) || !put_server(file, &end))
 		return result;
-	found = server_of(*place);
-	if (!found)
-		return result;
-	peer.four.sin_port = relay_port(*place);
-	*place = found;
+	size = endpoint_name(&end, peer.any.sa_family, &peer);
 	memcpy(address.__sockaddr__, &peer, room < size ? room : size);
 	return result;
 }

@@ -32,18 +32,25 @@ static socklen_t name_length(const struct msghdr *message)
 	return (int)message->msg_namelen < most ? message->msg_namelen : (socklen_t)most;
 }
 
-/* Returns the address of a node to which a socket of UDP sends a message, or 0. */
-static uint32_t receiver_of(int file, const struct msghdr *message)
+/* Returns the address of a node to which a socket of UDP sends a message, or none. */
+static struct address receiver_of(int file, const struct msghdr *message)
 {
 	struct sockaddr_storage peer;
 	socklen_t length = sizeof(peer);
+	struct address address;
+	sa_family_t family;
 
 	if (!net_peers() || net_type(file) != SOCK_DGRAM || !can_read(message))
-		return 0;
-	if (message->msg_name && message->msg_namelen)
-		return net_address(message->msg_name, name_length(message));
+		return NO_ADDRESS;
+	if (message->msg_name && message->msg_namelen) {
+		address = net_address(message->msg_name, name_length(message));
+		if (address_is_none(address))
+			return address;
+		family = ((const struct sockaddr *)message->msg_name)->sa_family;
+		return net_takes(file, SOCK_DGRAM, family, address) ? address : NO_ADDRESS;
+	}
 	if (host_call(SYS_getpeername, file, (long)&peer, (long)&length, 0, 0, 0))
-		return 0;
+		return NO_ADDRESS;
 	return net_address((struct sockaddr *)&peer, length);
 }
 
@@ -67,8 +74,14 @@ static int pending_error(int file)
 	return error;
 }
 
+/* Returns the most bytes of a datagram to an address. */
+static size_t most_to(struct address address)
+{
+	return address_family(address) == FAMILY_FOUR ? DATAGRAM_MOST_FOUR : DATAGRAM_MOST;
+}
+
 /* Hands a datagram to tkrun. Returns its bytes, or minus an error. */
-static ssize_t hand_over(int file, const struct msghdr *content, uint32_t address)
+static ssize_t hand_over(int file, const struct msghdr *content, struct address address)
 {
 	struct message message = { .kind = MESSAGE_DATAGRAM, .node = net_node(), .address = address };
 	size_t length = length_of(content);
@@ -76,7 +89,9 @@ static ssize_t hand_over(int file, const struct msghdr *content, uint32_t addres
 
 	if (error)
 		return -error;
-	if (length > DATAGRAM_MOST || content->msg_iovlen > TEXTS_MOST)
+	if (address_is_none(net_own(address)))
+		return -ENETUNREACH;
+	if (length > most_to(address) || content->msg_iovlen > TEXTS_MOST)
 		return -EMSGSIZE;
 	if (content->msg_control && content->msg_controllen > CONTROL_MOST)
 		return -ENOBUFS;
@@ -87,8 +102,8 @@ static ssize_t hand_over(int file, const struct msghdr *content, uint32_t addres
 					    : sizeof(message.to);
 		memcpy(&message.to, content->msg_name, message.to_length);
 	}
-	net_bind(file, 0);
-	net_stamp(file, content);
+	net_bind(file, NO_ADDRESS);
+	net_stamp(file, content, address);
 	error = net_hand_over(&message, content, &file, 1);
 	return error ? -error : (ssize_t)length;
 }
@@ -97,9 +112,9 @@ static ssize_t hand_over(int file, const struct msghdr *content, uint32_t addres
  * that fails. */
 static bool send_over(int file, const struct msghdr *message, int flags, ssize_t *result)
 {
-	uint32_t address = flags & MSG_OOB ? 0 : receiver_of(file, message);
+	struct address address = flags & MSG_OOB ? NO_ADDRESS : receiver_of(file, message);
 
-	if (!address)
+	if (address_is_none(address))
 		return false;
 	*result = hand_over(file, message, address);
 	if (*result < 0)
@@ -170,7 +185,7 @@ EXPORT ssize_t sendto(int file, const void *bytes, size_t length, int flags,
 	bool may_go_over = !name || (to_length && to_length <= sizeof(struct sockaddr_storage));
 	ssize_t result;
 
-	if (flags & MSG_FASTOPEN && net_address(name, to_length))
+	if (flags & MSG_FASTOPEN && !address_is_none(net_address(name, to_length)))
 		return net_refuse(EOPNOTSUPP);
 	if (may_go_over && net_peers() && send_over(file, &message, flags, &result))
 		return result;

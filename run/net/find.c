@@ -71,6 +71,13 @@ const struct peers *net_peers(void)
 	return now == 2 ? &library.machine.shared->peers : NULL;
 }
 
+const struct relay *net_relay(uint16_t port)
+{
+	struct shared_page *shared = library.machine.shared;
+
+	return shared->peers.has_relays ? &shared_relays(shared)->of[port] : NULL;
+}
+
 uint32_t net_node(void)
 {
 	return library.machine.shared->node;

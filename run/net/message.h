@@ -6,8 +6,7 @@
 #ifndef MESSAGE_H
 #define MESSAGE_H
 
-#include <netinet/in.h>
-#include <stdint.h>
+#include "clocks/address.h"
 
 enum message_kind {
 	MESSAGE_DATAGRAM, /* to be sent when it arrives */
@@ -19,24 +18,17 @@ enum message_kind {
  * TCP_USER_TIMEOUT, which has no effect then: in the low bits of this number. */
 enum { FAILURE = 0x746b0000, FAILURE_ERRORS = 0xffff };
 
-/* The most bytes of control data, and of a datagram of UDP. */
-enum { CONTROL_MOST = 512, DATAGRAM_MOST = 65507 };
-
-/* The name of a socket of IPv4 or IPv6. */
-union socket_name {
-	struct sockaddr any;
-	struct sockaddr_in four;
-	struct sockaddr_in6 six;
-};
+/* The most bytes of control data, and of a datagram of UDP by IPv4 and by IPv6. */
+enum { CONTROL_MOST = 512, DATAGRAM_MOST_FOUR = 65507, DATAGRAM_MOST = 65527 };
 
 /* The control data and the bytes of a datagram come after this. */
 struct message {
 	uint32_t kind;		 /* enum message_kind */
 	uint32_t node;		 /* the sender's */
-	uint32_t address;	 /* the receiver's, of IPv4 in the network's order */
+	struct address address;	 /* the receiver's */
 	uint32_t to_length;	 /* of `to`, or 0 if the socket is connected */
 	uint32_t control_length; /* bytes */
-	union socket_name to;	 /* one of IPv6 has an address of IPv4 */
+	union socket_name to;
 };
 
 #endif

@@ -1,25 +1,28 @@
 /* SPDX-License-Identifier: MIT OR Apache-2.0 */
 /*
  * relays.h - the addresses at which tkrun stands for the servers of other nodes. A connection of
- * TCP between two nodes is two of them: from the client to tkrun, and from tkrun to the server. The
- * address of tkrun's end contains the node and the port of the server, from which the library
- * computes what getpeername returns.
+ * TCP between two nodes is two of them: from the client to tkrun, and from tkrun to the server. By
+ * IPv4, the address of tkrun's end contains the node and the port of the server, from which the
+ * library computes what getpeername returns. By IPv6 a machine has too few addresses for that:
+ * tkrun's end has ::1 and any port, and a struct relays contains the server.
  */
 #ifndef RELAYS_H
 #define RELAYS_H
 
+#include "clocks/address.h"
+
 #include <arpa/inet.h>
-#include <netinet/in.h>
-#include <stdbool.h>
 #include <stddef.h>
-#include <stdint.h>
 
 /* 127.64.0.0, and the address after the last one. */
 #define RELAYS_FIRST UINT32_C(0x7f400000)
 #define RELAYS_END UINT32_C(0x7f800000)
 
-/* 127.128.0.1, to which copies of datagrams are sent for their stamps. */
+/* 127.128.0.1, to which copies of datagrams are sent for their stamps; by IPv6, to ::1. */
 #define SINK_ADDRESS UINT32_C(0x7f800001)
+
+/* ::1 */
+#define RELAY_SIX ((struct address){ { 0, 0, 0, htonl(1) } })
 
 /* Returns the address that stands for a port, both in the network's order, of a node. */
 static inline uint32_t relay_address(size_t node, uint16_t port)

@@ -4,79 +4,93 @@
 #include "net.h"
 #include "clocks/machine.h"
 
-#include <string.h>
-
 bool net_can_read_name(const struct sockaddr *name, socklen_t length)
 {
 	return length <= sizeof(struct sockaddr_storage) && host_can_read(name, length);
 }
 
-/* Returns the address of IPv4 in an address of IPv6, or 0. */
-static uint32_t mapped_address(const struct sockaddr_in6 *six)
+/* Returns the address in a name, or none. A name that the kernel refuses has none. */
+static struct address address_in(const struct sockaddr *name, socklen_t length)
 {
-	uint32_t address;
-
-	if (!IN6_IS_ADDR_V4MAPPED(&six->sin6_addr))
-		return 0;
-	memcpy(&address, &six->sin6_addr.s6_addr[12], sizeof(address));
-	return address;
+	if (!net_peers() || !name || !net_can_read_name(name, length))
+		return NO_ADDRESS;
+	return endpoint_of(name, length).address;
 }
 
-/* Returns the address of IPv4 that a name has, or 0. A name that the kernel refuses has none. */
-static uint32_t address_in(const struct sockaddr *name, socklen_t length)
+struct address net_address(const struct sockaddr *name, socklen_t length)
 {
-	if (!net_can_read_name(name, length))
-		return 0;
-	if (length >= sizeof(struct sockaddr_in) && name->sa_family == AF_INET)
-		return ((const struct sockaddr_in *)name)->sin_addr.s_addr;
-	if (length >= sizeof(struct sockaddr_in6) && name->sa_family == AF_INET6)
-		return mapped_address((const struct sockaddr_in6 *)name);
-	return 0;
-}
+	struct address found = address_in(name, length);
+	int family = address_family(found);
 
-uint32_t net_address(const struct sockaddr *name, socklen_t length)
-{
-	const struct peers *peers = net_peers();
-	uint32_t found = peers && name ? address_in(name, length) : 0;
-
-	for (uint32_t i = 0; found && i < PEERS_MOST; i++) {
-		if (peers->of[i] == found)
+	for (uint32_t i = 0; !address_is_none(found) && i < PEERS_MOST; i++) {
+		if (address_is_same(net_peers()->of[family][i], found))
 			return found;
 	}
-	return 0;
+	return NO_ADDRESS;
 }
 
 bool net_is_own(const struct sockaddr *name, socklen_t length)
 {
-	const struct peers *peers = net_peers();
+	struct address found = address_in(name, length);
 
-	return peers && name && address_in(name, length) == peers->own;
+	return !address_is_none(found) && address_is_same(found, net_own(found));
+}
+
+struct address net_own(struct address other)
+{
+	return net_peers()->own[address_family(other)];
+}
+
+/* Returns an option of a socket, or -1. */
+static int option_of(int file, int name)
+{
+	socklen_t length = sizeof(int);
+	int value;
+
+	if (host_call(SYS_getsockopt, file, SOL_SOCKET, name, (long)&value, (long)&length, 0))
+		return -1;
+	return value;
 }
 
 int net_type(int file)
 {
-	socklen_t length = sizeof(int);
-	int type;
-
-	if (host_call(SYS_getsockopt, file, SOL_SOCKET, SO_TYPE, (long)&type, (long)&length, 0))
-		return -1;
-	return type;
+	return option_of(file, SO_TYPE);
 }
 
-void net_bind(int file, uint32_t address)
+int net_domain(int file)
 {
+	return option_of(file, SO_DOMAIN);
+}
+
+bool net_is_six_only(int file)
+{
+	int value = 0;
+	socklen_t length = sizeof(value);
+
+	host_call(SYS_getsockopt, file, IPPROTO_IPV6, IPV6_V6ONLY, (long)&value, (long)&length, 0);
+	return value;
+}
+
+/* A socket of IPv4 takes no name of IPv6. One of IPv6 takes names of IPv4, by UDP. */
+bool net_takes(int file, int type, sa_family_t family, struct address address)
+{
+	int domain = net_domain(file);
+
+	if (domain != family && (domain != AF_INET6 || type != SOCK_DGRAM))
+		return false;
+	return domain == AF_INET || address_family(address) == FAMILY_SIX ||
+	       !net_is_six_only(file);
+}
+
+void net_bind(int file, struct address address)
+{
+	const struct endpoint wanted = { address, 0 };
 	union socket_name own = { 0 };
 	socklen_t length = sizeof(own);
 
 	if (host_call(SYS_getsockname, file, (long)&own, (long)&length, 0, 0, 0) ||
 	    own.four.sin_port)
 		return;
-	if (own.any.sa_family == AF_INET) {
-		own.four.sin_addr.s_addr = address;
-	} else if (address) {
-		memset(&own.six.sin6_addr, 0, 10);
-		memset(&own.six.sin6_addr.s6_addr[10], 0xff, 2);
-		memcpy(&own.six.sin6_addr.s6_addr[12], &address, sizeof(address));
-	}
+	length = endpoint_name(&wanted, own.any.sa_family, &own);
 	host_call(SYS_bind, file, (long)&own, length, 0, 0, 0);
 }

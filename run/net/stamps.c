@@ -31,34 +31,15 @@ static uint32_t asked_stamps(int file, const struct msghdr *message)
 	return flags & SOF_TIMESTAMPING_TX_RECORD_MASK;
 }
 
-/* Stores the name of the sink, for a socket of IPv4 or IPv6. Returns its length. */
-static socklen_t name_sink(int file, union socket_name *name)
+void net_stamp(int file, const struct msghdr *message, struct address address)
 {
-	const struct peers *peers = net_peers();
-	int family = AF_INET;
-	socklen_t length = sizeof(family);
-
-	host_call(SYS_getsockopt, file, SOL_SOCKET, SO_DOMAIN, (long)&family, (long)&length, 0);
-	memset(name, 0, sizeof(*name));
-	name->any.sa_family = (sa_family_t)family;
-	name->four.sin_port = peers->sink_port;
-	if (family == AF_INET) {
-		name->four.sin_addr.s_addr = peers->sink_address;
-		return sizeof(name->four);
-	}
-	name->six.sin6_addr.s6_addr32[2] = htonl(0xffff);
-	name->six.sin6_addr.s6_addr32[3] = peers->sink_address;
-	return sizeof(name->six);
-}
-
-void net_stamp(int file, const struct msghdr *message)
-{
+	const struct endpoint *sink = &net_peers()->sinks[address_family(address)];
 	struct msghdr copy = *message;
-	union socket_name sink;
+	union socket_name name;
 
-	if (!net_peers()->sink_port || !asked_stamps(file, message))
+	if (!sink->port || !asked_stamps(file, message))
 		return;
-	copy.msg_namelen = name_sink(file, &sink);
-	copy.msg_name = &sink;
+	copy.msg_namelen = endpoint_name(sink, net_domain(file), &name);
+	copy.msg_name = &name;
 	host_call(SYS_sendmsg, file, (long)&copy, MSG_NOSIGNAL | MSG_DONTWAIT, 0, 0, 0);
 }

@@ -1,7 +1,7 @@
 /* SPDX-License-Identifier: MIT OR Apache-2.0 */
 /*
- * strays.c - what a program sends to an address to which no link leads, such as 127.0.0.1 or one of
- * IPv6. tkrun finds out whether another node gets it. It is asked a few times for each port, since
+ * strays.c - what a program sends to an address to which no link leads, such as 127.0.0.1 or ::1.
+ * tkrun finds out whether another node gets it. It is asked a few times for each port, since
  * the program that gets it may come later.
  */
 #define _GNU_SOURCE

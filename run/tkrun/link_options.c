@@ -1,11 +1,9 @@
 /* SPDX-License-Identifier: MIT OR Apache-2.0 */
-/* link_options.c - parses --link NODE,NODE[,OPTION=VALUE].. and the addresses of nodes. */
+/* link_options.c - parses --link NODE,NODE[,OPTION=VALUE].. */
 #define _GNU_SOURCE
 #include "options.h"
 #include "seeds.h"
-#include "net/relays.h"
 
-#include <arpa/inet.h>
 #include <math.h>
 #include <stdio.h>
 #include <stdlib.h>
@@ -103,9 +101,20 @@ static size_t find_end(const struct options *options, const char *name, const ch
 		fail(STATUS_WRONG, "--link %s: it isn't NODE,NODE[,OPTION=VALUE]..", words);
 	if (!node)
 		fail(STATUS_WRONG, "--link %s: there is no node '%s'", words, name);
-	if (!options->nodes[node - 1].address)
+	if (!has_address(&options->nodes[node - 1]))
 		fail(STATUS_WRONG, "--link %s: the node '%s' has no address", words, name);
 	return node;
+}
+
+/* Returns whether two nodes have addresses of one family. */
+static bool share_family(const struct options *one, const struct options *other)
+{
+	bool is_shared = false;
+
+	for (int i = 0; i < FAMILIES; i++)
+		is_shared |= !address_is_none(one->addresses[i]) &&
+			     !address_is_none(other->addresses[i]);
+	return is_shared;
 }
 
 static void parse_link(const struct options *options, const char *words,
@@ -120,6 +129,9 @@ static void parse_link(const struct options *options, const char *words,
 	link->to = find_end(options, strsep(&rest, ","), words);
 	if (link->from == link->to)
 		fail(STATUS_WRONG, "--link %s: a node has no link to itself", words);
+	if (!share_family(&options->nodes[link->from - 1], &options->nodes[link->to - 1]))
+		fail(STATUS_WRONG, "--link %s: one node has an address of IPv4, the other of IPv6",
+		     words);
 	while ((word = strsep(&rest, ",")))
 		parse_word(link, word, words);
 	if (!link->has_seed && options->has_seed)
@@ -182,14 +194,4 @@ void parse_links(struct options *options)
 		options->link_count++;
 	}
 	add_other_directions(options);
-}
-
-uint32_t parse_address(const char *text)
-{
-	struct in_addr address;
-
-	if (inet_pton(AF_INET, text, &address) != 1 || ntohl(address.s_addr) <= INADDR_LOOPBACK ||
-	    ntohl(address.s_addr) >= RELAYS_FIRST)
-		fail(STATUS_WRONG, "address '%s' isn't one from 127.0.0.2 to 127.63.255.255", text);
-	return address.s_addr;
 }

@@ -77,12 +77,19 @@ static void *make_file(const char *folder, const char *name, size_t size,
 	return memory == MAP_FAILED ? NULL : memory;
 }
 
+static bool has_relays(const struct node *node)
+{
+	return !address_is_none(node->options.addresses[FAMILY_SIX]);
+}
+
 /* Makes the files of a folder that is there. Returns false if it can't. */
 static bool make_files(struct node *node)
 {
 	struct machine *machine = &node->machine;
 	size_t more = node->options.has_file_times ? sizeof(*machine->shared->file_times) : 0;
 
+	if (has_relays(node))
+		more += sizeof(struct relays);
 	chmod(node->folder, 0755);
 	machine->shared = make_file(node->folder, "page",
 				    sizeof(*machine->shared) + more, 0644);
@@ -241,6 +248,7 @@ static void open_machine(const struct run *run, struct node *node, double host_h
 	shared->denies_set = node->options.denies_set;
 	shared->has_stamps = node->options.has_stamps;
 	shared->has_file_times = node->options.has_file_times;
+	shared->peers.has_relays = has_relays(node);
 	shared->calls_host = run->calls_host;
 	machine_init_lock(node->machine.control);
 	shared->base = first ? first->machine.shared->base

@@ -50,22 +50,32 @@ static void raise_limit(void)
 
 /* Opens a socket that nobody reads, and whose queue is soon full. Without it, no datagram over a
  * link is stamped when it is sent. */
-static void open_sink(struct run *run)
+static struct endpoint open_sink(struct address address)
 {
-	struct sockaddr_in name = { .sin_family = AF_INET, .sin_addr.s_addr = htonl(SINK_ADDRESS) };
-	int file = socket(AF_INET, SOCK_DGRAM | SOCK_CLOEXEC, 0), least = 1;
-	socklen_t length = sizeof(name);
+	struct endpoint name = { address, 0 };
+	int file = net_make(address, SOCK_DGRAM), least = 1;
 
 	setsockopt(file, SOL_SOCKET, SO_RCVBUF, &least, sizeof(least));
-	if (bind(file, (struct sockaddr *)&name, length) ||
-	    getsockname(file, (struct sockaddr *)&name, &length))
+	if (net_call_with(bind, file, &name))
 		fail(STATUS_FAILED, "cannot make the sink of --stamps: %s", strerror(errno));
-	for (size_t i = 0; i < run->count; i++) {
+	return net_name(file);
+}
+
+/* Opens the sinks. The machine may have no IPv6, if no node has it. */
+static void open_sinks(struct run *run)
+{
+	const struct endpoint four = open_sink(address_of_four(htonl(SINK_ADDRESS)));
+	struct endpoint six = { NO_ADDRESS, 0 };
+
+	for (size_t i = 1; i < run->count; i++) {
 		struct peers *peers = &run->nodes[i].machine.shared->peers;
 
-		peers->sink_address = name.sin_addr.s_addr;
-		peers->sink_port = name.sin_port;
+		if (!six.port && !address_is_none(peers->own[FAMILY_SIX]))
+			six = open_sink(RELAY_SIX);
+		peers->sinks[FAMILY_FOUR] = four;
 	}
+	for (size_t i = 1; i < run->count; i++)
+		run->nodes[i].machine.shared->peers.sinks[FAMILY_SIX] = six;
 }
 
 void net_open(struct run *run)
@@ -77,6 +87,7 @@ void net_open(struct run *run)
 	if (!run->nodes->options.link_count)
 		return;
 	links_open(run);
+	net_check_addresses(run);
 	node_total = run->count;
 	inbox = socket(AF_UNIX, SOCK_DGRAM | SOCK_CLOEXEC | SOCK_NONBLOCK, 0);
 	if (inbox < 0 || !name_socket(&address, folder) ||
@@ -87,7 +98,7 @@ void net_open(struct run *run)
 	if (outbox >= 0 && !connect(outbox, (struct sockaddr *)&address, sizeof(address)))
 		files_offer_net(outbox);
 	if (run->nodes->options.has_stamps)
-		open_sink(run);
+		open_sinks(run);
 }
 
 void net_remove(const char *folder)

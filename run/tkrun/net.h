@@ -10,8 +10,6 @@
 #include "tkrun.h"
 #include "net/message.h"
 
-#include <linux/inet_diag.h>
-
 /* One direction of a link. */
 struct link {
 	struct link_options options;
@@ -30,7 +28,7 @@ void links_open(struct run *run);
 struct link *link_between(size_t from, size_t to);
 
 /* Returns the number of the node with an address, or 0. */
-size_t node_at(uint32_t address);
+size_t node_at(struct address address);
 
 /* Cuts both directions between two nodes, or heals them. */
 void links_cut(size_t one, size_t other, bool is_cut);
@@ -80,35 +78,61 @@ struct port {
 
 enum found { FOUND_NONE, FOUND_ONE, FOUND_UNKNOWN };
 
+/* A socket in the kernel's list. */
+struct listed {
+	struct endpoint name;
+	bool is_six_only; /* one of IPv6 that takes no IPv4 */
+	uint32_t inode;
+};
+
 /* Looks at a socket by what is wanted. */
-typedef bool socket_test(const struct inet_diag_msg *found, const void *wanted);
+typedef bool socket_test(const struct listed *found, const void *wanted);
 
 /* Looks at all sockets of a port, those of IPv4 first. Returns whether one of them is wanted, if the
  * kernel says which there are. */
 enum found sockets_find(const struct port *port, socket_test *is_wanted, const void *wanted);
 
-/* Return the name of a socket, and call bind or connect with a name. The socket may be one of IPv6,
- * with an address of IPv4. */
-struct sockaddr_in net_name(int file);
+/* Makes a socket of a type by the family of an address. */
+int net_make(struct address address, int type);
+
+/* Return the name of a socket, and call bind or connect with a name. */
+struct endpoint net_name(int file);
 int net_call_with(int (*call)(int, const struct sockaddr *, socklen_t), int file,
-		  const struct sockaddr_in *name);
+		  const struct endpoint *name);
+
+/* Returns the address of a node of the family of another address, or none. */
+struct address net_own_address(size_t node, struct address other);
+
+/* Stores for which port of a link's end tkrun stands at a port of ::1, for a client's socket. */
+void net_note_relay(const struct link_options *link, uint16_t relay_port, int client,
+		    uint16_t port);
+
+/* Returns whether a socket gets what is sent to a name. One of IPv6 may get what IPv4 sends. */
+bool net_gets(const struct listed *found, const struct endpoint *name);
+
+/* Returns whether an address is one of this machine. */
+bool net_is_local(struct address address);
+
+/* Ends tkrun if this machine doesn't have the addresses of IPv6 of all nodes with links. */
+void net_check_addresses(const struct run *run);
 
 /* A connection to a server that is to be made. */
 struct opening;
 
 /* Returns whether a program listens at a name. */
-bool opening_is_heard(const struct sockaddr_in *server);
+bool opening_is_heard(const struct endpoint *server);
 
 /* Makes an opening, whose server will see the client's name. */
-struct opening *opening_begin(const struct sockaddr_in *client, const struct sockaddr_in *server);
+struct opening *opening_begin(const struct endpoint *client, const struct endpoint *server);
 
 /* Stores the file of the connection, or -1. Returns an errno. With EINPROGRESS the server has no
  * room for a connection, and it is to be tried again when programs have run. */
 int opening_try(struct opening *opening, int *file);
 void opening_end(struct opening *opening);
 
-/* Makes a socket of TCP for tkrun's end of a connection, which may share its address. */
-int net_make_socket(void);
+/* Makes a socket of TCP for tkrun's end of a connection by the family of an address. It may share
+ * its address. */
+int net_make_socket(struct address address);
 
 /* Returns the error of a socket that is connecting, EINPROGRESS if it still is, or 0. */
 int net_state_of(int file, int millis);

@@ -28,7 +28,7 @@ enum {
 
 struct connection {
 	struct link *there, *back;
-	struct sockaddr_in server_name, guard_name;
+	struct endpoint server, guard_name;
 	int client; /* the program's socket */
 	int answer; /* gets the errno, or -1: the socket doesn't block */
 	int guard, filler; /* and its connection */
@@ -74,34 +74,43 @@ static void let_go(struct connection *connection)
 	free(connection);
 }
 
-/* Opens the guard, whose address stands for the server's. */
+/* Opens the guard, which stands for the server. */
 static bool open_guard(struct connection *connection)
 {
-	struct sockaddr_in name = {
-		.sin_family = AF_INET,
-		.sin_addr.s_addr = relay_address(connection->there->options.to,
-						 connection->server_name.sin_port),
+	const struct link_options *link = &connection->there->options;
+	uint16_t port = connection->server.port;
+	bool is_four = address_family(connection->server.address) == FAMILY_FOUR;
+	const struct endpoint name = {
+		is_four ? address_of_four(relay_address(link->to, port)) : RELAY_SIX, 0
 	};
 
-	connection->guard = net_make_socket();
+	connection->guard = net_make_socket(name.address);
 	if (net_call_with(bind, connection->guard, &name) || listen(connection->guard, 0))
 		return false;
 	connection->guard_name = net_name(connection->guard);
-	connection->filler = net_make_socket();
-	net_call_with(connect, connection->filler, &connection->guard_name);
+	if (!is_four)
+		net_note_relay(link, connection->guard_name.port, connection->client, port);
+	connection->filler = net_make_socket(name.address);
+	if (net_call_with(connect, connection->filler, &connection->guard_name) &&
+	    errno != EINPROGRESS)
+		return false;
 	return !net_state_of(connection->filler, WAIT_MILLIS);
+}
+
+/* Returns the address of the client's node. */
+static struct address own_address(const struct connection *connection)
+{
+	return net_own_address(connection->there->options.from, connection->server.address);
 }
 
 /* Lets the client's socket begin to connect to the guard, without a wait. Returns an errno. */
 static int begin_client(struct connection *connection, int flags)
 {
-	struct sockaddr_in name = net_name(connection->client);
+	const struct endpoint own = { own_address(connection), 0 };
 	int error;
 
-	if (!name.sin_port) {
-		name.sin_addr.s_addr = node_machine(connection->there->options.from)->shared->peers.own;
-		net_call_with(bind, connection->client, &name);
-	}
+	if (!net_name(connection->client).port)
+		net_call_with(bind, connection->client, &own);
 	fcntl(connection->client, F_SETFL, flags | O_NONBLOCK);
 	error = net_call_with(connect, connection->client, &connection->guard_name) ? errno : 0;
 	fcntl(connection->client, F_SETFL, flags);
@@ -111,8 +120,8 @@ static int begin_client(struct connection *connection, int flags)
 /* Connects tkrun's end to the client's socket. Returns its file, or -1. */
 static int connect_client(const struct connection *connection)
 {
-	struct sockaddr_in name = net_name(connection->client);
-	int file = net_make_socket();
+	const struct endpoint name = net_name(connection->client);
+	int file = net_make_socket(connection->guard_name.address);
 
 	if (!net_call_with(bind, file, &connection->guard_name) &&
 	    (!net_call_with(connect, file, &name) || errno == EINPROGRESS) &&
@@ -148,15 +157,14 @@ static void fail_client(struct connection *connection, int error)
  * address of its node. */
 static struct opening *begin_opening(const struct connection *connection)
 {
-	struct sockaddr_in name = net_name(connection->client);
+	const struct endpoint name = { own_address(connection), net_name(connection->client).port };
 	struct opening *opening;
 	int one = 1, before = 0;
 	socklen_t length = sizeof(before);
 
-	name.sin_addr.s_addr = node_machine(connection->there->options.from)->shared->peers.own;
 	getsockopt(connection->client, SOL_SOCKET, SO_REUSEADDR, &before, &length);
 	setsockopt(connection->client, SOL_SOCKET, SO_REUSEADDR, &one, sizeof(one));
-	opening = opening_begin(&name, &connection->server_name);
+	opening = opening_begin(&name, &connection->server);
 	setsockopt(connection->client, SOL_SOCKET, SO_REUSEADDR, &before, sizeof(before));
 	return opening;
 }
@@ -211,7 +219,7 @@ static void arrive_at_server(struct flight *flight, uint64_t now)
 	struct connection *connection = take_packet(flight);
 	struct link *back = connection->back;
 
-	connection->error = opening_is_heard(&connection->server_name) ? 0 : ECONNREFUSED;
+	connection->error = opening_is_heard(&connection->server) ? 0 : ECONNREFUSED;
 	if (!connection->is_done && !link_loses(back))
 		begin_packet(connection, back, link_arrival(back, now, 0), arrive_at_client);
 	let_go(connection);
@@ -266,15 +274,13 @@ void take_connection(const struct message *message, int file, int answer, uint64
 	*connection = (struct connection){
 		.there = link_between(message->node, to),
 		.back = link_between(to, message->node),
-		.server_name = { .sin_family = AF_INET,
-				 .sin_port = message->to.four.sin_port,
-				 .sin_addr.s_addr = message->address },
+		.server = { message->address, message->to.four.sin_port },
 		.client = file,
 		.answer = answer,
 		.guard = -1,
 		.filler = -1,
 	};
-	if (answer >= 0 && connection->there) {
+	if (answer >= 0 && connection->there && !address_is_none(own_address(connection))) {
 		begin(connection, now);
 		return;
 	}

@@ -63,13 +63,9 @@ static void let_sender_go(struct sender *sender)
 /* Returns whether a socket is bound to no address, so that the kernel would choose the host's. */
 static bool has_no_address(int file)
 {
-	union socket_name own = { 0 };
-	socklen_t length = sizeof(own);
+	struct address own = net_name(file).address;
 
-	if (getsockname(file, &own.any, &length))
-		return false;
-	return own.any.sa_family == AF_INET ? !own.four.sin_addr.s_addr
-					    : IN6_IS_ADDR_UNSPECIFIED(&own.six.sin6_addr);
+	return address_is_none(own) || address_is_same(own, address_of_four(INADDR_ANY));
 }
 
 /* Appends a part to control data. Returns its length. */
@@ -84,22 +80,34 @@ static size_t put_part(char *control, size_t length, const struct cmsghdr *head,
 	return at + CMSG_ALIGN(head->cmsg_len);
 }
 
+/* Stores the address of the sender's node as the one that sends. Returns the length. */
+static size_t put_source(char *control, const struct message *message)
+{
+	struct address own = net_own_address(message->node, message->address);
+	struct in_pktinfo four = { .ipi_spec_dst.s_addr = own.words[3] };
+	struct in6_pktinfo six = { .ipi6_ifindex = 0 };
+	struct cmsghdr four_head = { CMSG_LEN(sizeof(four)), IPPROTO_IP, IP_PKTINFO };
+	struct cmsghdr six_head = { CMSG_LEN(sizeof(six)), IPPROTO_IPV6, IPV6_PKTINFO };
+
+	memcpy(&six.ipi6_addr, &own, sizeof(own));
+	return address_family(message->address) == FAMILY_FOUR
+		       ? put_part(control, 0, &four_head, &four)
+		       : put_part(control, 0, &six_head, &six);
+}
+
 /* Stores the control data. The node's address sends, unless the program says otherwise. The library
  * has let the kernel stamp the datagram when the program sent it, so it isn't stamped again. */
 static size_t put_control(const struct datagram *datagram, char *control)
 {
 	const struct message *message = &datagram->message;
-	struct in_pktinfo info = {
-		.ipi_spec_dst.s_addr = node_machine(message->node)->shared->peers.own,
-	};
 	const uint32_t no_stamps = 0;
-	struct cmsghdr source = { CMSG_LEN(sizeof(info)), IPPROTO_IP, IP_PKTINFO };
 	struct cmsghdr stamps = { CMSG_LEN(sizeof(no_stamps)), SOL_SOCKET, SO_TIMESTAMPING_OLD };
-	size_t length = message->control_length;
+	size_t length = 0;
 
-	memcpy(control, datagram->bytes, length);
-	if (!length && has_no_address(datagram->sender->file))
-		length = put_part(control, 0, &source, &info);
+	if (has_no_address(datagram->sender->file))
+		length = put_source(control, message);
+	memcpy(control + length, datagram->bytes, message->control_length);
+	length += message->control_length;
 	if (node_machine(message->node)->shared->has_stamps)
 		length = put_part(control, length, &stamps, &no_stamps);
 	return length;
@@ -110,7 +118,7 @@ static void arrive(struct flight *flight, uint64_t now)
 {
 	struct datagram *datagram = (struct datagram *)flight;
 	struct message *message = &datagram->message;
-	_Alignas(struct cmsghdr) char control[CONTROL_MOST + CMSG_SPACE(sizeof(struct in_pktinfo)) +
+	_Alignas(struct cmsghdr) char control[CONTROL_MOST + CMSG_SPACE(sizeof(struct in6_pktinfo)) +
 					      CMSG_SPACE(sizeof(uint32_t))];
 	struct iovec text = { datagram->bytes + message->control_length, datagram->length };
 	struct msghdr out = { .msg_name = message->to_length ? &message->to : NULL,

@@ -3,8 +3,11 @@
 #define _GNU_SOURCE
 #include "net.h"
 
+#include <linux/inet_diag.h>
 #include <linux/netlink.h>
+#include <linux/rtnetlink.h>
 #include <linux/sock_diag.h>
+#include <string.h>
 #include <unistd.h>
 
 enum { ANSWER_BYTES = 65536 };
@@ -26,10 +29,29 @@ static bool ask(int file, const struct port *port, uint8_t family)
 	return send(file, &ask, sizeof(ask), 0) == sizeof(ask);
 }
 
+/* Returns what the kernel says of a socket. Of those that take no IPv4, it is an attribute. */
+static struct listed describe(struct nlmsghdr *head)
+{
+	const struct inet_diag_msg *found = NLMSG_DATA(head);
+	struct rtattr *part = (struct rtattr *)(found + 1);
+	size_t left = head->nlmsg_len - NLMSG_LENGTH(sizeof(*found));
+	struct listed listed = { { NO_ADDRESS, found->id.idiag_sport }, false, found->idiag_inode };
+
+	if (found->idiag_family == AF_INET)
+		listed.name.address = address_of_four(found->id.idiag_src[0]);
+	else
+		memcpy(&listed.name.address, found->id.idiag_src, sizeof(listed.name.address));
+	for (; RTA_OK(part, left); part = RTA_NEXT(part, left))
+		listed.is_six_only |= part->rta_type == INET_DIAG_SKV6ONLY &&
+				      *(const uint8_t *)RTA_DATA(part);
+	return listed;
+}
+
 /* Reads the kernel's answer. Returns whether it contains a socket that is wanted. */
 static bool find(int file, socket_test *is_wanted, const void *wanted)
 {
 	static _Alignas(struct nlmsghdr) char bytes[ANSWER_BYTES];
+	struct listed listed;
 	bool is_found = false;
 	ssize_t length;
 
@@ -40,7 +62,8 @@ static bool find(int file, socket_test *is_wanted, const void *wanted)
 		for (; NLMSG_OK(head, left); head = NLMSG_NEXT(head, left)) {
 			if (head->nlmsg_type != SOCK_DIAG_BY_FAMILY)
 				return is_found; /* the end, or an error */
-			is_found |= is_wanted(NLMSG_DATA(head), wanted);
+			listed = describe(head);
+			is_found |= is_wanted(&listed, wanted);
 		}
 	}
 	return is_found;

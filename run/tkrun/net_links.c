@@ -17,14 +17,19 @@ void links_open(struct run *run)
 	links = net_allocate(count * sizeof(*links) + 1);
 	for (size_t i = 0; i < count; i++) {
 		struct link *link = &links[i];
+		const struct options *from, *to;
 		struct peers *peers;
 
 		link->options = options->links[i];
 		link->place = i;
+		from = &options->nodes[link->options.from - 1];
+		to = &options->nodes[link->options.to - 1];
 		peers = &run->nodes[link->options.from].machine.shared->peers;
-		peers->own = options->nodes[link->options.from - 1].address;
-		peers->binds_own = options->nodes[link->options.from - 1].binds_own;
-		peers->of[link->options.to - 1] = options->nodes[link->options.to - 1].address;
+		peers->binds_own = from->binds_own;
+		for (int family = 0; family < FAMILIES; family++) {
+			peers->own[family] = from->addresses[family];
+			peers->of[family][link->options.to - 1] = to->addresses[family];
+		}
 		peers->count++;
 	}
 }
@@ -38,11 +43,12 @@ struct link *link_between(size_t from, size_t to)
 	return NULL;
 }
 
-size_t node_at(uint32_t address)
+size_t node_at(struct address address)
 {
-	size_t i = options->node_count;
+	size_t i = address_is_none(address) ? 0 : options->node_count;
+	int family = address_family(address);
 
-	while (i && options->nodes[i - 1].address != address)
+	while (i && !address_is_same(options->nodes[i - 1].addresses[family], address))
 		i--;
 	return i;
 }

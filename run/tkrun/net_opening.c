@@ -16,13 +16,13 @@
 enum { RECEIVE_BYTES = 131072 };
 
 struct opening {
-	struct sockaddr_in server;
+	struct endpoint server;
 	int file; /* or -1 */
 };
 
-int net_make_socket(void)
+int net_make_socket(struct address address)
 {
-	int file = socket(AF_INET, SOCK_STREAM | SOCK_CLOEXEC | SOCK_NONBLOCK, 0);
+	int file = net_make(address, SOCK_STREAM | SOCK_NONBLOCK);
 	int one = 1, bytes = turns_are_on() ? CONNECTION_RECEIVE_BYTES : RECEIVE_BYTES;
 
 	setsockopt(file, SOL_SOCKET, SO_REUSEADDR, &one, sizeof(one));
@@ -43,39 +43,28 @@ int net_state_of(int file, int millis)
 	return error;
 }
 
-/* Returns whether a socket that listens has a name: its address, or that of all. One of IPv6 may
- * have an address of IPv4. */
-static bool has_name(const struct inet_diag_msg *found, const void *wanted)
+static bool gets(const struct listed *found, const void *wanted)
 {
-	const struct sockaddr_in *name = wanted;
-	const uint32_t *words = found->id.idiag_src;
-	bool is_six = found->idiag_family == AF_INET6;
-	uint32_t own = words[is_six ? 3 : 0];
-
-	return found->id.idiag_sport == name->sin_port &&
-	       (!own || own == name->sin_addr.s_addr) &&
-	       (!is_six || (!words[0] && !words[1] && words[2] == (own ? htonl(0xffff) : 0)));
+	return net_gets(found, wanted);
 }
 
-bool opening_is_heard(const struct sockaddr_in *server)
+bool opening_is_heard(const struct endpoint *server)
 {
 	const struct port port = { .protocol = IPPROTO_TCP, .states = 1 << TCP_LISTEN,
-				   .port = server->sin_port };
+				   .port = server->port };
 
-	return sockets_find(&port, has_name, server) != FOUND_NONE;
+	return sockets_find(&port, gets, server) != FOUND_NONE;
 }
 
 /* tkrun's end has the client's port, or another one if the client's doesn't share it. */
-struct opening *opening_begin(const struct sockaddr_in *client, const struct sockaddr_in *server)
+struct opening *opening_begin(const struct endpoint *client, const struct endpoint *server)
 {
 	struct opening *opening = net_allocate(sizeof(*opening));
-	struct sockaddr_in name = *client;
+	const struct endpoint other = { client->address, 0 };
 
-	*opening = (struct opening){ .server = *server, .file = net_make_socket() };
-	if (!bind(opening->file, (struct sockaddr *)&name, sizeof(name)))
-		return opening;
-	name.sin_port = 0;
-	bind(opening->file, (struct sockaddr *)&name, sizeof(name));
+	*opening = (struct opening){ .server = *server, .file = net_make_socket(server->address) };
+	if (net_call_with(bind, opening->file, client))
+		net_call_with(bind, opening->file, &other);
 	return opening;
 }
 
@@ -83,11 +72,10 @@ struct opening *opening_begin(const struct sockaddr_in *client, const struct soc
  * would try again by the host's time. So that is ended, and the socket keeps its name. */
 static int try_once(const struct opening *opening)
 {
-	const struct sockaddr *name = (const struct sockaddr *)&opening->server;
 	const struct sockaddr none = { .sa_family = AF_UNSPEC };
 	int error = 0;
 
-	if (connect(opening->file, name, sizeof(opening->server)))
+	if (net_call_with(connect, opening->file, &opening->server))
 		error = errno == EINPROGRESS ? net_state_of(opening->file, 0) : errno;
 	if (error == EINPROGRESS)
 		connect(opening->file, &none, sizeof(none));

@@ -16,52 +16,18 @@
 
 /* A name to which a program sends, and the inode of a socket that has it. */
 struct receiver {
-	union socket_name name;
+	struct endpoint name;
 	uint32_t *inode;
 };
 
-/* Returns whether words are 0, or those of an address. */
-static bool is_none_or(const uint32_t *words, const void *address, size_t count)
-{
-	static const uint32_t none[4];
-
-	return !memcmp(words, none, count * sizeof(*words)) ||
-	       !memcmp(words, address, count * sizeof(*words));
-}
-
-/* Returns whether a socket gets what is sent to a name. One of IPv6 may get what IPv4 sends. */
-static bool receives(const struct inet_diag_msg *found, const void *wanted)
+static bool receives(const struct listed *found, const void *wanted)
 {
 	const struct receiver *receiver = wanted;
-	const union socket_name *name = &receiver->name;
-	const uint32_t *words = found->id.idiag_src;
-	const uint32_t mapped[4] = { 0, 0, htonl(0xffff), name->four.sin_addr.s_addr };
-	bool is_six = name->any.sa_family == AF_INET6, is_it;
 
-	if (is_six)
-		is_it = found->idiag_family == AF_INET6 && is_none_or(words, &name->six.sin6_addr, 4);
-	else if (found->idiag_family == AF_INET)
-		is_it = is_none_or(words, &name->four.sin_addr, 1);
-	else
-		is_it = is_none_or(words, mapped, 4);
-	if (is_it)
-		*receiver->inode = found->idiag_inode;
-	return is_it;
-}
-
-/* Returns whether an address is one of this computer. */
-static bool is_local(const union socket_name *name)
-{
-	union socket_name own = *name;
-	int file = socket(name->any.sa_family, SOCK_DGRAM | SOCK_CLOEXEC, 0);
-	bool is_bound;
-
-	own.four.sin_port = 0;
-	is_bound = !bind(file, &own.any,
-			 name->any.sa_family == AF_INET ? sizeof(own.four) : sizeof(own.six));
-	if (file >= 0)
-		close(file);
-	return is_bound;
+	if (!net_gets(found, &receiver->name))
+		return false;
+	*receiver->inode = found->inode;
+	return true;
 }
 
 /* Returns whether a process has a socket open. */
@@ -102,16 +68,17 @@ static size_t node_with(uint32_t inode)
 
 /* Returns the node that gets what is sent to a name, or 0. The last answer is kept: most programs
  * send to few sockets. */
-static size_t receiver_of(const union socket_name *name, int file)
+static size_t receiver_of(const struct endpoint *name, int file)
 {
 	static uint32_t last_inode;
 	static size_t last_node;
 	uint32_t inode = 0;
 	const struct receiver receiver = { *name, &inode };
-	struct port port = { .port = name->four.sin_port };
+	struct port port = { .port = name->port };
 	socklen_t length = sizeof(port.protocol);
 
-	if (getsockopt(file, SOL_SOCKET, SO_PROTOCOL, &port.protocol, &length) || !is_local(name))
+	if (getsockopt(file, SOL_SOCKET, SO_PROTOCOL, &port.protocol, &length) ||
+	    !net_is_local(name->address))
 		return 0;
 	port.states = port.protocol == IPPROTO_TCP ? 1 << TCP_LISTEN : UINT32_MAX;
 	if (sockets_find(&port, receives, &receiver) != FOUND_ONE)
@@ -123,34 +90,33 @@ static size_t receiver_of(const union socket_name *name, int file)
 }
 
 /* Warns once for two nodes. */
-static void warn(size_t from, size_t to, const union socket_name *name)
+static void warn(size_t from, size_t to, const struct endpoint *name)
 {
 	static bool is_warned[1 + NODES_MOST][1 + NODES_MOST];
-	bool is_six = name->any.sa_family == AF_INET6;
+	const uint32_t *words = name->address.words;
+	bool is_four = address_family(name->address) == FAMILY_FOUR;
 	char address[INET6_ADDRSTRLEN];
 
 	if (is_warned[from][to])
 		return;
 	is_warned[from][to] = is_warned[to][from] = true;
-	inet_ntop(name->any.sa_family,
-		  is_six ? (const void *)&name->six.sin6_addr : &name->four.sin_addr, address,
+	inet_ntop(is_four ? AF_INET : AF_INET6, is_four ? words + 3 : words, address,
 		  sizeof(address));
 	fprintf(stderr,
 		"tkrun: '%s' sends to '%s' by the address %s, port %d: no link leads there, so "
 		"nothing is delayed or lost\n",
 		the_run.nodes[from].options.name, the_run.nodes[to].options.name, address,
-		ntohs(name->four.sin_port));
+		ntohs(name->port));
 }
 
 void take_stray(const struct message *message, int file)
 {
+	const struct endpoint name = endpoint_of(&message->to.any, message->to_length);
 	size_t from = message->node, to = 0;
-	int family = message->to.any.sa_family;
 
-	if ((family == AF_INET && message->to_length >= sizeof(struct sockaddr_in)) ||
-	    (family == AF_INET6 && message->to_length >= sizeof(struct sockaddr_in6)))
-		to = receiver_of(&message->to, file);
+	if (name.port)
+		to = receiver_of(&name, file);
 	if (to && to != from && link_between(from, to))
-		warn(from, to, &message->to);
+		warn(from, to, &name);
 	close(file);
 }

@@ -114,12 +114,21 @@ static void parse_node(const struct options *all, const char *words, struct opti
 		parse_word(node, word);
 	if (all->record)
 		node->record = copy_of(all->record, node->name);
-	if (node->binds_own && !node->address)
+	if (node->binds_own && !has_address(node))
 		fail(STATUS_WRONG, "bind=own needs an address");
 	if (node->wander_ppm != 0 && all->counter != COUNTER_SLEEPS)
 		fail(STATUS_WRONG, "wander-ppm needs --counter sleeps");
 	compare_options(node);
 	node->has_uptime |= all->has_uptime && !node->script;
+}
+
+static void compare_addresses(const struct options *one, const struct options *other)
+{
+	for (int i = 0; i < FAMILIES; i++) {
+		if (!address_is_none(one->addresses[i]) &&
+		    address_is_same(one->addresses[i], other->addresses[i]))
+			fail(STATUS_WRONG, "two nodes have this address");
+	}
 }
 
 void parse_nodes(struct options *options)
@@ -132,9 +141,7 @@ void parse_nodes(struct options *options)
 		for (size_t j = 0; j < i; j++) {
 			if (!strcmp(options->nodes[i].name, options->nodes[j].name))
 				fail(STATUS_WRONG, "two nodes have this name");
-			if (options->nodes[i].address &&
-			    options->nodes[i].address == options->nodes[j].address)
-				fail(STATUS_WRONG, "two nodes have this address");
+			compare_addresses(&options->nodes[i], &options->nodes[j]);
 		}
 		fail_within(NULL);
 	}

@@ -148,7 +148,7 @@ static bool parse_nodes_option(struct options *o, const char *name, const char *
 	else if (!strcmp(name, "link"))
 		add_link(o, value);
 	else if (!strcmp(name, "address"))
-		o->address = parse_address(value);
+		parse_address(o, value);
 	else if (!strcmp(name, "bind") && !strcmp(value, "own"))
 		o->binds_own = true;
 	else if (!strcmp(name, "bind"))

@@ -69,8 +69,8 @@ struct options {
 	const char *node_words[NODES_MOST];
 	size_t node_count;
 	struct options *nodes;
-	uint32_t address; /* of a node, of IPv4 in the network's order, or 0 */
-	bool binds_own;   /* bind=own */
+	struct address addresses[FAMILIES]; /* of a node, or none */
+	bool binds_own; /* bind=own */
 	const char **link_words;
 	size_t link_count;
 	struct link_options *links; /* one for each direction */
@@ -117,8 +117,11 @@ const struct link_options *find_link(const struct options *options, size_t from,
 /* Returns the number of a node, or 0 if there is none with the name. */
 size_t find_node(const struct options *options, const char *name);
 
-/* Returns the address of a node, in the network's order. Ends tkrun if it isn't one. */
-uint32_t parse_address(const char *text);
+/* Adds an address of a node. Ends tkrun if it isn't one. */
+void parse_address(struct options *node, const char *text);
+
+/* Returns whether a node has an address. */
+bool has_address(const struct options *node);
 
 /* Returns whether a text may be the name of a node. */
 bool is_node_name(const char *text);

@@ -23,7 +23,8 @@ MORE = 1  # processes that run at once, beyond the number of processors
 WAITING = {"test_chrony": 1, "test_kernel": 8, "test_waits": 8}
 # other modules that take long, which come first
 FIRST = {"test_masks": 5, "test_nodes": 2, "test_python": 1, "test_check": 1, "test_calls": 1,
-         "test_net_streams": 2, "test_net_connections": 1, "test_net_datagrams": 1}
+         "test_net_streams": 2, "test_net_connections": 1, "test_net_datagrams": 1,
+         "test_net_six": 4}
 LONG = ["test_many_seeds", "test_many_kills", "test_postgresql", "test_redis", "test_nginx"]
 
 

@@ -14,18 +14,31 @@ DRAW = random.Random(os.getpid())
 NETWORK = "127.{}.{}.".format(*DRAW.sample(range(1, 64), 2))
 PORT = DRAW.randrange(10000, 32000)  # the kernel chooses none of these
 ADDRESSES = {name: f"{NETWORK}{i + 1}" for i, name in enumerate("abc")}
-OPTIONS = [*STILL, "--start", START]
-for NAME, ADDRESS in ADDRESSES.items():
-    OPTIONS += ["--node", f"{NAME},address={ADDRESS}"]
 
+
+def options_of(addresses, more=""):
+    """The options of nodes with these addresses, each with the same more."""
+    words = [*STILL, "--start", START]
+    for name, address in addresses.items():
+        words += ["--node", f"{name},address={address}{more}"]
+    return words
+
+
+OPTIONS = options_of(ADDRESSES)
+# what each program begins with: ANY and HOST are addresses of the family of the nodes, and server
+# makes a socket that listens
 PRELUDE = f"""import errno, os, select, signal, socket, struct, sys, time
-A, B, C = {tuple(ADDRESSES.values())}
 PORT = {PORT}
+A, B, C = NODES
 AT_B = B, PORT
+FAMILY = socket.AF_INET6 if ":" in A else socket.AF_INET
+ANY, HOST = ("::", "::1") if ":" in A else ("0.0.0.0", "127.0.0.1")
 def now(): return time.clock_gettime_ns(time.CLOCK_REALTIME) - {START} * 10**9
 def show(*words): print(*words, now(), flush=True)
+def tcp(): return socket.socket(FAMILY)
+def server(name, **options): return socket.create_server(name, family=FAMILY, **options)
 def udp(*name):
-    new = socket.socket(socket.AF_INET, socket.SOCK_DGRAM)
+    new = socket.socket(FAMILY, socket.SOCK_DGRAM)
     if name: new.bind(name)
     return new
 """
@@ -35,7 +48,7 @@ STREAMS = PRELUDE + """
 import zlib
 def listen():
     global listener
-    listener = socket.create_server(AT_B)
+    listener = server(AT_B)
     listener.settimeout(200)
 def serve(name=""):
     s, peer = listener.accept()
@@ -47,15 +60,15 @@ def serve(name=""):
     show(name + "end", total, check)
     return s
 def connect(to=AT_B, name=None):
-    s = socket.socket()
+    s = tcp()
     if name: s.bind(name)
-    try: s.connect(to); show("connected", s.getpeername() == to)
+    try: s.connect(to); show("connected", s.getpeername()[:2] == to)
     except OSError as error: show(errno.errorcode[error.errno])
     return s
 def reset(s):
     s.setsockopt(socket.SOL_SOCKET, socket.SO_LINGER, struct.pack("ii", 1, 0)); s.close()
 def connect_later(to=AT_B):
-    s = socket.socket(); s.setblocking(False)
+    s = tcp(); s.setblocking(False)
     show(errno.errorcode[s.connect_ex(to)])
     poll = select.poll(); poll.register(s, select.POLLOUT)
     poll.poll()
@@ -69,15 +82,23 @@ NOW = SECOND + 1  # after the client's sleep
 
 
 class LinkTest(RunTest):
+    addresses, family, host, network = ADDRESSES, "socket.AF_INET", "127.0.0.1", []
     prelude = PRELUDE
-    options = OPTIONS
+
+    def setUp(self):
+        super().setUp()
+        self.options = self.make_options()
+
+    def make_options(self):
+        return options_of(self.addresses)
 
     def script(self, programs, before=""):
         """A shell script that runs a Python program on each node, and waits for all. Those that
         still wait after a long time of the clocks are killed."""
         lines = [before]
         for name, text in programs.items():
-            path = self.file(f"{name}.py", self.prelude + textwrap.dedent(text))
+            head = f"NODES = {tuple(self.addresses.values())}\n"
+            path = self.file(f"{name}.py", head + self.prelude + textwrap.dedent(text))
             lines.append(f"{TKRUN} node {name} -- python3 -B {path} >{self.folder}/{name} 2>&1 & "
                          "P=\"$P $!\"")
         lines.append("exec 2>/dev/null; { sleep 100000; kill -9 $P; } & wait $P; true")

@@ -7,7 +7,9 @@
 #include <arpa/inet.h>
 #include <errno.h>
 #include <linux/net_tstamp.h>
+#include <netinet/in.h>
 #include <netinet/tcp.h>
+#include <stdbool.h>
 #include <stdint.h>
 #include <stdio.h>
 #include <stdlib.h>
@@ -28,33 +30,41 @@ enum { PAGE = 4096, GUARD = 0x55 };
 		printf("%s %ld %s\n", #call, result, result < 0 ? strerrorname_np(errno) : "-"); \
 	} while (0)
 
-static struct sockaddr_in to = { .sin_family = AF_INET };
+static union {
+	struct sockaddr any;
+	struct sockaddr_in four;
+	struct sockaddr_in6 six;
+} to;
+static socklen_t to_size; /* of the name, and of names of its family */
 static int plain, linked, local, stream; /* one has no peer, the second is connected to ADDRESS, the
 					    third to itself, and the last one is of TCP */
 static char *pages; /* two, of which only the first one is there */
 
-static int make_socket(int type, const struct sockaddr_in *peer)
+static int make_socket(int type, const struct sockaddr *peer)
 {
-	int file = socket(AF_INET, type, 0);
+	int file = socket(to.any.sa_family, type, 0);
 
-	if (peer && connect(file, (const struct sockaddr *)peer, sizeof(*peer)))
+	if (peer && connect(file, peer, to_size))
 		perror("connect");
 	return file;
 }
 
 static void make_sockets(void)
 {
-	struct sockaddr_in own = { .sin_family = AF_INET, .sin_addr.s_addr = htonl(0x7f000001) };
-	socklen_t size = sizeof(own);
+	__typeof__(to) own = { .six.sin6_addr = IN6ADDR_LOOPBACK_INIT };
+	socklen_t size = to_size;
 	int one = 1;
 
+	own.any.sa_family = to.any.sa_family;
+	if (to.any.sa_family == AF_INET)
+		own.four.sin_addr.s_addr = htonl(INADDR_LOOPBACK);
+
 	plain = make_socket(SOCK_DGRAM, NULL);
-	linked = make_socket(SOCK_DGRAM, &to);
+	linked = make_socket(SOCK_DGRAM, &to.any);
 	local = make_socket(SOCK_DGRAM, NULL);
 	stream = make_socket(SOCK_STREAM, NULL);
-	if (bind(local, (struct sockaddr *)&own, size) ||
-	    getsockname(local, (struct sockaddr *)&own, &size) ||
-	    connect(local, (struct sockaddr *)&own, size) ||
+	if (bind(local, &own.any, size) || getsockname(local, &own.any, &size) ||
+	    connect(local, &own.any, size) ||
 	    setsockopt(local, SOL_SOCKET, SO_TIMESTAMPNS, &one, sizeof(one)))
 		perror("local");
 }
@@ -67,7 +77,7 @@ static void *at_edge(const void *object, size_t bytes)
 
 static struct msghdr message_of(struct iovec *texts, size_t count)
 {
-	return (struct msghdr){ .msg_name = &to, .msg_namelen = sizeof(to),
+	return (struct msghdr){ .msg_name = &to, .msg_namelen = to_size,
 				.msg_iov = texts, .msg_iovlen = count };
 }
 
@@ -101,19 +111,19 @@ static void send_bytes(void *bad)
 	TRY(write(linked, bad, 5));
 	TRY(writev(linked, &missing, 1));
 	TRY(writev(linked, bad, 2));
-	TRY(sendto(plain, bad, 5, 0, (struct sockaddr *)&to, sizeof(to)));
-	TRY(sendto(plain, "name", 4, 0, bad, sizeof(to)));
-	TRY(sendto(stream, "name", 4, MSG_FASTOPEN, bad, sizeof(to)));
+	TRY(sendto(plain, bad, 5, 0, (struct sockaddr *)&to, to_size));
+	TRY(sendto(plain, "name", 4, 0, bad, to_size));
+	TRY(sendto(stream, "name", 4, MSG_FASTOPEN, bad, to_size));
 }
 
 static void use_names(void *bad)
 {
-	struct sockaddr_in name;
+	struct sockaddr_in6 name;
 	socklen_t size = sizeof(name);
 
-	TRY(connect(plain, bad, sizeof(to)));
-	TRY(connect(stream, bad, sizeof(to)));
-	TRY(bind(plain, bad, sizeof(to)));
+	TRY(connect(plain, bad, to_size));
+	TRY(connect(stream, bad, to_size));
+	TRY(bind(plain, bad, to_size));
 	TRY(getpeername(linked, bad, &size));
 	TRY(getpeername(linked, (struct sockaddr *)&name, bad));
 	TRY(setsockopt(stream, IPPROTO_TCP, TCP_NODELAY, bad, sizeof(int)));
@@ -150,7 +160,7 @@ static void receive(void *bad)
 		      control = { .msg_control = bad, .msg_controllen = 64, .msg_iov = &space,
 				  .msg_iovlen = 1 };
 	struct mmsghdr two[2] = { { name, 0 }, { parts, 0 } };
-	socklen_t size = sizeof(to);
+	socklen_t size = to_size;
 
 	RECEIVE(recv(local, bad, 9, 0));
 	RECEIVE(read(local, bad, 9));
@@ -176,13 +186,13 @@ static void use_edges(void)
 	struct mmsghdr two[2] = { { message, 0 }, { message, 0 } };
 
 	TRY(send(linked, at_edge("edge", 4), 5, 0));
-	TRY(sendto(plain, "edge", 4, 0, at_edge(&to, 15), sizeof(to)));
-	TRY(connect(plain, at_edge(&to, 15), sizeof(to)));
+	TRY(sendto(plain, "edge", 4, 0, at_edge(&to, to_size - 1), to_size));
+	TRY(connect(plain, at_edge(&to, to_size - 1), to_size));
 	TRY(sendmsg(plain, at_edge(&message, sizeof(message) - 8), 0));
 	name.msg_name = at_edge(&to, 8);
 	TRY(sendmsg(plain, &name, 0));
-	name.msg_name = at_edge(&to, sizeof(to));
-	name.msg_namelen = sizeof(to) + 1;
+	name.msg_name = at_edge(&to, to_size);
+	name.msg_namelen = to_size + 1;
 	TRY(sendmsg(plain, &name, 0));
 	parts.msg_iov = at_edge(texts, sizeof(*texts));
 	TRY(sendmsg(plain, &parts, 0));
@@ -218,7 +228,7 @@ static void use_numbers(void)
 	TRY(sendmsg(plain, &message, 0));
 	message.msg_namelen = 0;
 	TRY(sendmsg(linked, &message, 0));
-	memcpy(long_name, &to, sizeof(to));
+	memcpy(long_name, &to, to_size);
 	message.msg_name = long_name;
 	message.msg_namelen = sizeof(long_name);
 	TRY(sendmsg(plain, &message, 0));
@@ -227,7 +237,7 @@ static void use_numbers(void)
 	text.iov_base = at_edge("at the end", 10);
 	message = message_of(&text, 1);
 	TRY(sendmsg(plain, &message, 0));
-	message.msg_name = at_edge(&to, sizeof(to));
+	message.msg_name = at_edge(&to, to_size);
 	text.iov_base = "name at the end";
 	text.iov_len = 15;
 	TRY(sendmsg(plain, &message, 0));
@@ -253,14 +263,24 @@ static void cut_stamp(void)
 	}
 }
 
+static void set_name(const char *address, const char *port)
+{
+	bool is_six = strchr(address, ':');
+
+	to.any.sa_family = is_six ? AF_INET6 : AF_INET;
+	to_size = is_six ? sizeof(to.six) : sizeof(to.four);
+	inet_pton(to.any.sa_family, address,
+		  is_six ? (void *)&to.six.sin6_addr : (void *)&to.four.sin_addr);
+	to.four.sin_port = htons((uint16_t)atoi(port));
+}
+
 int main(int count, char **words)
 {
 	void *bad[] = { NULL, (void *)1, NULL, (void *)INT64_MIN };
 
 	if (count != 3)
 		return EXIT_FAILURE;
-	to.sin_addr.s_addr = inet_addr(words[1]);
-	to.sin_port = htons((uint16_t)atoi(words[2]));
+	set_name(words[1], words[2]);
 	pages = mmap(NULL, 2 * PAGE, PROT_READ | PROT_WRITE, MAP_PRIVATE | MAP_ANONYMOUS, -1, 0);
 	mprotect(pages + PAGE, PAGE, PROT_NONE);
 	bad[2] = pages + PAGE;

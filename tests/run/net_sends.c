@@ -5,7 +5,7 @@
  *     net_sends ADDRESS PORT
  *
  * The sockets are those of IPv4, or those of IPv6 if the address is one of IPv6. Each text is the
- * name of the call. The last one comes from a socket that is bound to the port before.
+ * name of the call. By IPv6, the machine needs the address fd00::77. The last one comes from a socket that is bound to the port before.
  */
 #define _GNU_SOURCE
 #include <arpa/inet.h>
@@ -98,40 +98,54 @@ static void send_files(void)
 	close(file);
 }
 
+/* Returns whether the address isn't one of IPv4, also in one of IPv6. */
+static bool is_six(void)
+{
+	return to.any.sa_family == AF_INET6 && !IN6_IS_ADDR_V4MAPPED(&to.six.sin6_addr);
+}
+
 /* Sends from an address that the control data states, with a socket that is bound to another. */
 static void send_control(void)
 {
 	union {
 		struct cmsghdr head;
-		char bytes[CMSG_SPACE(sizeof(struct in_pktinfo))];
+		char bytes[CMSG_SPACE(sizeof(struct in6_pktinfo))];
 	} part = { .head = { CMSG_LEN(sizeof(struct in_pktinfo)), IPPROTO_IP, IP_PKTINFO } };
-	struct in_pktinfo info = { .ipi_spec_dst.s_addr = inet_addr("127.0.0.77") };
+	const struct in_pktinfo four = { .ipi_spec_dst.s_addr = inet_addr("127.0.0.77") };
+	struct in6_pktinfo six = { .ipi6_ifindex = 0 };
 	struct iovec text = { "control", 7 };
 	struct msghdr message = message_of(&text, 1, true);
 	int file = make_socket(false);
 
-	memcpy(CMSG_DATA(&part.head), &info, sizeof(info));
+	memcpy(CMSG_DATA(&part.head), &four, sizeof(four));
+	message.msg_controllen = CMSG_SPACE(sizeof(four));
+	if (is_six()) {
+		inet_pton(AF_INET6, "fd00::77", &six.ipi6_addr);
+		part.head = (struct cmsghdr){ CMSG_LEN(sizeof(six)), IPPROTO_IPV6, IPV6_PKTINFO };
+		memcpy(CMSG_DATA(&part.head), &six, sizeof(six));
+		message.msg_controllen = CMSG_SPACE(sizeof(six));
+	}
 	message.msg_control = &part;
-	message.msg_controllen = sizeof(part);
 	expect("sendmsg with control data", sendmsg(file, &message, 0), 7);
 	close(file);
 }
 
 static void send_too_much(void)
 {
-	static char bytes[65508];
-	struct iovec texts[] = { { bytes, 65000 }, { bytes, 508 } };
+	static char bytes[65528];
+	size_t size = is_six() ? 65528 : 65508;
+	struct iovec texts[] = { { bytes, 65000 }, { bytes, size - 65000 } };
 	struct msghdr message = message_of(texts, 2, true);
 	int file = make_socket(true);
 
-	if (send(file, bytes, sizeof(bytes), 0) != -1 || errno != EMSGSIZE)
+	if (send(file, bytes, size, 0) != -1 || errno != EMSGSIZE)
 		puts("send of too much succeeds");
 	if (sendmsg(file, &message, 0) != -1 || errno != EMSGSIZE)
 		puts("sendmsg of too much succeeds");
 	if (write(file, nowhere, 10) != -1 || errno != EFAULT)
 		puts("write of no memory succeeds");
 	errno = 0;
-	expect("send of the most", send(file, bytes, sizeof(bytes) - 1, 0), sizeof(bytes) - 1);
+	expect("send of the most", send(file, bytes, size - 1, 0), (long)size - 1);
 	close(file);
 }
 

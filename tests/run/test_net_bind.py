@@ -1,12 +1,9 @@
 """bind=own: a socket that a program binds to no address gets that of its node."""
 import unittest
 
-from links import ADDRESSES, PRELUDE, SECOND, LinkTest
+from links import PRELUDE, SECOND, START, LinkTest, options_of
 from runs import STILL
 
-OWN = [*STILL, "--start", 2000]
-for NAME, ADDRESS in ADDRESSES.items():
-    OWN += ["--node", f"{NAME},bind=own,address={ADDRESS}"]
 MAKE = PRELUDE + """
 def make(kind, name, only=0):
     s = socket.socket(socket.AF_INET6 if ":" in name else socket.AF_INET, kind)
@@ -18,8 +15,10 @@ def make(kind, name, only=0):
 
 
 class Bind(LinkTest):
-    options = OWN
     prelude = MAKE
+
+    def make_options(self):
+        return options_of(self.addresses, ",bind=own")
 
     def test_the_same_port_on_two_nodes(self):
         # by UDP and TCP, and by sockets of both families
@@ -57,7 +56,7 @@ class Bind(LinkTest):
                 print(libc.bind(s.fileno(), name, len(name)), errno.errorcode[ctypes.get_errno()])
             print(libc.bind(s.fileno(), None, 16), errno.errorcode[ctypes.get_errno()])
             """
-        own, mapped = ADDRESSES["a"], "::ffff:" + ADDRESSES["a"]
+        own, mapped = self.addresses["a"], "::ffff:" + self.addresses["a"]
         names = [own, mapped, "::", "127.0.0.1", "::1", own, mapped]
         lines = [[name, "True"] for name in [*names, *names, own]] + [["unix"]]
         lines += [[-1, "EINVAL"]] * 2 + [[-1, "EFAULT"]]
@@ -78,12 +77,12 @@ class Bind(LinkTest):
 
     def test_nodes_without_it(self):
         # one node has it; the other one, and one without links, have none
-        self.options = [*STILL, "--start", 2000, "--node", f"a,address={ADDRESSES['a']}", "--node",
-                        f"b,bind=own,address={ADDRESSES['b']}", "--node",
-                        f"c,bind=own,address={ADDRESSES['c']}"]
+        a, b, c = self.addresses.values()
+        self.options = [*STILL, "--start", START, "--node", f"a,address={a}", "--node",
+                        f"b,bind=own,address={b}", "--node", f"c,bind=own,address={c}"]
         text = "print(udp('', 0).getsockname()[0])"
         out = self.on_links(["a,b"], {name: text for name in "abc"})
-        self.assertEqual(out, {"a": [["0.0.0.0"]], "b": [[ADDRESSES["b"]]], "c": [["0.0.0.0"]]})
+        self.assertEqual(out, {"a": [["0.0.0.0"]], "b": [[b]], "c": [["0.0.0.0"]]})
         self.assertEqual(self.on_links([], {"b": text})["b"], [["0.0.0.0"]])
 
     def test_wrong_values(self):

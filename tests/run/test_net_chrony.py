@@ -2,7 +2,7 @@
 import shutil
 import unittest
 
-from links import ADDRESSES, PORT, LinkTest
+from links import PORT, LinkTest
 from runs import STILL, TKRUN, needs_root
 
 CHRONYD = shutil.which("chronyd", path="/usr/sbin:/sbin:/usr/bin:/bin")
@@ -16,9 +16,9 @@ class Chrony(LinkTest):
         """How far the clock of b, which a corrects, is ahead of that of a in the end, in s. It
         begins 2 s ahead, on a counter that is 80 ppm too fast."""
         common = f"cmdport 0\nbindcmdaddress /\nclockprecision 1e-9\npidfile {self.folder}/"
-        server = self.file("server", f"{common}server.pid\nlocal stratum 1\nallow 127.0.0.0/8\n"
-                                     f"bindaddress {ADDRESSES['a']}\nport {PORT}\n")
-        source = f"server {ADDRESSES['a']} port {PORT} minpoll 4 maxpoll 4 iburst"
+        server = self.file("server", f"{common}server.pid\nlocal stratum 1\nallow\n"
+                                     f"bindaddress {self.addresses['a']}\nport {PORT}\n")
+        source = f"server {self.addresses['a']} port {PORT} minpoll 4 maxpoll 4 iburst"
         client = self.file("client", f"{common}client.pid\nport 0\nmakestep 0.1 3\n{source}\n")
         daemon = f"{CHRONYD} -d -u root -F 0"
         text = f"""
@@ -31,8 +31,8 @@ class Chrony(LinkTest):
             """
         words = [word for link in links for word in ("--link", link)]
         out = self.run_on(*STILL, "--start", "2030-01-01T00:00:00Z", "--node",
-                          f"a,address={ADDRESSES['a']}", "--node",
-                          f"b,address={ADDRESSES['b']},error-ppm=80,ahead=2", *words, "--check",
+                          f"a,address={self.addresses['a']}", "--node",
+                          f"b,address={self.addresses['b']},error-ppm=80,ahead=2", *words, "--check",
                           "--", "sh", "-c", text)
         first, second = map(int, out.split())
         return (second - first) / 1e9

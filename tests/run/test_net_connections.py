@@ -3,7 +3,7 @@ starts at 0, and a sleep of a second ends 1 ns after it."""
 import unittest
 import zlib
 
-from links import (ADDRESSES, BACK, LINKS, MILLI, NOW, PORT, SECOND, STREAMS, THERE, LinkTest)
+from links import BACK, LINKS, MILLI, NOW, PORT, SECOND, STREAMS, THERE, LinkTest
 from runs import TKRUN
 
 # connects, and is interrupted after half a second
@@ -16,10 +16,11 @@ INTERRUPTED = """
         _fields_ = [("handler", type(handler)), ("rest", ctypes.c_char * 144)]
     action = Action(handler); libc.sigaction(signal.SIGALRM, ctypes.byref(action), None)
     signal.setitimer(signal.ITIMER_REAL, 0.5)
-    s = socket.socket()
-    name = struct.pack("!H2s4s8x", 0, struct.pack("!H", PORT), socket.inet_aton(B))
-    name = struct.pack("H", socket.AF_INET) + name[2:]
-    show(libc.connect(s.fileno(), name, 16), errno.errorcode[ctypes.get_errno()])
+    s = tcp()
+    host = socket.inet_pton(FAMILY, B)
+    name = struct.pack("!2xH", PORT) + bytes(4 * (":" in B)) + host + bytes(8 - 4 * (":" in B))
+    name = struct.pack("H", FAMILY) + name[2:]
+    show(libc.connect(s.fileno(), name, len(name)), errno.errorcode[ctypes.get_errno()])
 """
 
 
@@ -37,10 +38,10 @@ class Connections(LinkTest):
         connected = NOW + THERE + BACK
         end = connected + SECOND + 1 + THERE
         self.assertEqual(out["b"], [
-            ["accepted", "True", ADDRESSES["a"], connected + THERE],
+            ["accepted", "True", self.addresses["a"], connected + THERE],
             ["first", connected + THERE], ["end", 6, zlib.crc32(b"onetwo"), end], ["closed", end]])
         self.assertEqual(out["a"], [
-            ["connected", "True", connected], [ADDRESSES["a"], connected],
+            ["connected", "True", connected], [self.addresses["a"], connected],
             ["back", end + BACK], ["b''", end + BACK]])
 
     def test_a_socket_that_does_not_block(self):
@@ -49,7 +50,7 @@ class Connections(LinkTest):
             "a": """
     time.sleep(1)
     s = connect_later()
-    show(s.getpeername() == AT_B, s.connect_ex(AT_B), errno.errorcode[s.connect_ex(AT_B)])
+    show(s.getpeername()[:2] == AT_B, s.connect_ex(AT_B), errno.errorcode[s.connect_ex(AT_B)])
     s.send(b"123456789")
     """})
         connected = NOW + THERE + BACK
@@ -61,18 +62,18 @@ class Connections(LinkTest):
     def test_waits_for_a_connection(self):
         # each way to wait finds out when it is there, and not before
         out = self.on_links(["a,b,delay=1"], {
-            "b": "l = socket.create_server(AT_B)\nfor _ in range(4): l.accept()",
+            "b": "l = server(AT_B)\nfor _ in range(4): l.accept()",
             "a": """
     import asyncio
     def begin():
-        s = socket.socket(); s.setblocking(False)
+        s = tcp(); s.setblocking(False)
         show(errno.errorcode[s.connect_ex(AT_B)], errno.errorcode[s.connect_ex(AT_B)])
         return s
     s = begin(); show(*map(len, select.select([], [s], [], 1.5)))
     select.select([], [s], []); show()
     s = begin(); epoll = select.epoll(); epoll.register(s, select.EPOLLOUT | select.EPOLLET)
     show(epoll.poll(1.5)); show(len(epoll.poll()))
-    s = socket.create_connection(AT_B, timeout=5); show(s.getpeername() == AT_B)
+    s = socket.create_connection(AT_B, timeout=5); show(s.getpeername()[:2] == AT_B)
     async def main():
         reader, writer = await asyncio.open_connection(*AT_B); show(); writer.close()
     asyncio.run(main())
@@ -101,30 +102,31 @@ class Connections(LinkTest):
     show(errno.errorcode[s.getsockopt(socket.SOL_SOCKET, socket.SO_ERROR)])
     """})
         connected = NOW + THERE + BACK
-        self.assertEqual(out["b"], [["::ffff:" + ADDRESSES["a"], connected + THERE],
+        self.assertEqual(out["b"], [["::ffff:" + self.addresses["a"], connected + THERE],
                                     ["six", connected + THERE]])
-        self.assertEqual(out["a"], [["True", "::ffff:" + ADDRESSES["a"], connected],
+        self.assertEqual(out["a"], [["True", "::ffff:" + self.addresses["a"], connected],
                                     ["EINPROGRESS", connected],
                                     ["ECONNREFUSED", connected + THERE + BACK]])
 
     def test_the_client_keeps_its_port(self):
         out = self.on_links(LINKS, {
-            "b": "l = socket.create_server(AT_B)\n"
-                 "for _ in range(3): show(l.accept()[1][1])",
-            "a": "time.sleep(1); connect(name=(A, PORT + 2)); connect(name=('', PORT + 3))\n"
+            "b": "l = server(AT_B)\n"
+                 "for _ in range(3): name, port, *_ = l.accept()[1]; show(name, port)",
+            "a": "time.sleep(1); connect(name=(A, PORT + 2)); connect(name=(ANY, PORT + 3))\n"
                  "s = connect(); show(s.getsockopt(socket.SOL_SOCKET, socket.SO_REUSEADDR))"})
-        self.assertEqual([line[0] for line in out["b"][:2]], [PORT + 2, PORT + 3])
-        self.assertNotIn(out["b"][2][0], [PORT + 2, PORT + 3])
+        self.assertEqual([line[0] for line in out["b"]], [self.addresses["a"]] * 3)
+        self.assertEqual([line[1] for line in out["b"][:2]], [PORT + 2, PORT + 3])
+        self.assertNotIn(out["b"][2][1], [PORT + 2, PORT + 3])
         self.assertEqual([line[0] for line in out["a"]], ["connected"] * 3 + [0])
 
     def test_connections_within_a_node_have_its_address(self):
         out = self.on_links(["a,b,delay=1"], {"a": """
     own = A, PORT
-    server, peer = socket.create_server(own), udp(*own); time.sleep(1)
+    server, peer = server(own), udp(*own); time.sleep(1)
     s = connect(own); print(s.getsockname()[0], server.accept()[1][0])
     s = udp(); s.connect(own); s.send(b"1"); print(peer.recvfrom(9)[1][0]); show()
     """})
-        own = ADDRESSES["a"]
+        own = self.addresses["a"]
         self.assertEqual(out["a"], [["connected", "True", NOW], [own, own], [own], [NOW]])
 
     def test_a_port_that_nobody_has(self):
@@ -144,7 +146,7 @@ class Connections(LinkTest):
     def test_a_port_that_others_have(self):
         # another node, and the host, listen at the same port
         out = self.on_links(["a,b,delay=1ms", "a,c,delay=1ms"], {
-            "c": "l = socket.create_server((C, PORT)); time.sleep(9)",
+            "c": "l = server((C, PORT)); time.sleep(9)",
             "b": "l = socket.create_server(('127.0.0.1', PORT)); "
                  "m = socket.create_server(('::1', PORT), family=socket.AF_INET6); time.sleep(9)",
             "a": "time.sleep(1); connect(); connect((C, PORT))"})
@@ -168,13 +170,14 @@ class Connections(LinkTest):
             connected = 16 * SECOND + 1 + THERE + BACK
             self.assertEqual(out["a"][-1], ["connected"] + ["True"] * (connect == "connect") +
                              [connected])
-            self.assertEqual(out["b"][0], ["accepted", "True", ADDRESSES["a"], connected + THERE])
+            self.assertEqual(out["b"][0],
+                             ["accepted", "True", self.addresses["a"], connected + THERE])
 
     def test_lost_packets_of_connections(self):
         # each direction loses half of them: a connection takes 1, 3, 7, .. s more for lost ones
         def run(seed):
             out = self.on_links([f"a,b,delay=1ms,loss=0.5,seed={seed}"], {
-                "b": "l = socket.create_server(AT_B)\nwhile True: l.accept()",
+                "b": "l = server(AT_B)\nwhile True: l.accept()",
                 "a": """
     time.sleep(1)
     for _ in range(20):
@@ -201,7 +204,7 @@ class Connections(LinkTest):
         # the answer has been sent, but nobody listens when the last packet comes
         for send in ["", "s.send(b'1')"]:
             out = self.on_links(LINKS, {
-                "b": "l = socket.create_server(AT_B); time.sleep(1.02); l.close(); time.sleep(9)",
+                "b": "l = server(AT_B); time.sleep(1.02); l.close(); time.sleep(9)",
                 "a": f"""
     time.sleep(1); s = connect(); {send}
     try: s.recv(9)
@@ -214,7 +217,7 @@ class Connections(LinkTest):
         # the server accepts when it can, and no byte is lost
         out = self.on_links(["a,b,delay=1ms"], {
             "b": """
-    l = socket.create_server(AT_B, backlog=1); time.sleep(3)
+    l = server(AT_B, backlog=1); time.sleep(3)
     for _ in range(5): s = l.accept()[0]; show(s.recv(9).decode())
     """, "a": "time.sleep(1)\nfor i in range(5): connect().send(b'%d' % i)\ntime.sleep(99)"})
         self.assertEqual(sorted(line[0] for line in out["b"]), list(range(5)))
@@ -232,12 +235,25 @@ class Connections(LinkTest):
 
     def test_only_the_linked_nodes_have_delays(self):
         out = self.on_links(["a,b,delay=1"], {
-            "b": "l = socket.create_server(('', PORT))\nfor _ in range(2): l.accept(); show()",
+            "b": "l = server((ANY, PORT))\nfor _ in range(2): l.accept(); show()",
             "c": "time.sleep(1); connect()"},
             before=f"{TKRUN} node b -- python3 -c \"import socket, time; time.sleep(0.5); "
-                   f"socket.create_connection(('{ADDRESSES['b']}', {PORT}))\" &")
+                   f"socket.create_connection(('{self.addresses['b']}', {PORT}))\" &")
         self.assertEqual(out["b"], [[SECOND // 2 + 1], [NOW]])
         self.assertEqual(out["c"], [["connected", "True", NOW]])
+
+    def test_many_connections(self):
+        out = self.on_links(["a,b,delay=1"], {
+            "b": """
+    l = server(AT_B, backlog=4096); all = [l.accept()[0] for _ in range(300)]
+    print(sum(int(s.recv(9)) for s in all), now() // 10**6)
+    """, "a": """
+    time.sleep(1); all = []
+    for i in range(300):
+        s = tcp(); s.setblocking(False); s.connect_ex(AT_B); all.append(s)
+    for i, s in enumerate(all): select.select([], [s], []); s.send(b"%d" % i)
+    """})
+        self.assertEqual(out["b"], [[sum(range(300)), 4000]])
 
 
 if __name__ == "__main__":

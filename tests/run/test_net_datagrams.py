@@ -1,25 +1,11 @@
 """Datagrams between nodes with --link. All times are computed here: a program starts at 0, and a
 sleep of a second ends 1 ns after it."""
 import pathlib
-import re
-import socket
 import unittest
 
-from links import ADDRESSES, MILLI, OPTIONS, PORT, SECOND, LinkTest
-from runs import TKRUN, call, program
+from links import MILLI, PORT, SECOND, LinkTest
+from runs import TKRUN
 
-SENDS, FAULTS = program("net_sends"), program("net_faults")
-# the texts of net_sends in the order of its calls
-TEXTS = ["sendmsg", "send", "msgmmsg", "sendto", "sendmsg", "send", "msgmmsg", "connected", "write",
-         "writev", "", "", "control", "65507"]
-FAULTS_COUNT = 147  # calls of net_faults that find memory that isn't there
-RECEIVE_ALL = """
-    s = udp("", PORT)
-    while True:
-        text, name = s.recvfrom(70000)
-        show(text.decode() if len(text) < 100 else len(text), name[0])
-        if len(text) == 65507: break
-"""
 # sends some datagrams with their numbers, and waits before each
 SEND_SOME = "s = udp()\nfor i in range({0}): time.sleep({1}); s.sendto(b'%d' % i, AT_B)\n"
 RECEIVE_SOME = """
@@ -37,39 +23,6 @@ def arrivals(lines):
 
 
 class Datagrams(LinkTest):
-    def test_each_call_that_sends(self):
-        for address in (ADDRESSES["b"], "::ffff:" + ADDRESSES["b"]):
-            with self.subTest(address=address):
-                out = self.on_links(["a,b,delay=20ms"], {
-                    "b": RECEIVE_ALL,
-                    "a": f"time.sleep(1); os.execv('{SENDS}', ['s', '{address}', str(PORT)])"})
-                self.assertEqual(out["a"], [])
-                texts = [int(text) if text.isdigit() else text for text in TEXTS]
-                names = [ADDRESSES["a"]] * len(TEXTS)
-                names[TEXTS.index("control")] = "127.0.0.77"  # see net_sends.c
-                expected = [[text, name, SECOND + 1 + 20 * MILLI] if text != "" else
-                            [name, SECOND + 1 + 20 * MILLI] for text, name in zip(texts, names)]
-                self.assertEqual(out["b"], expected)
-
-    def test_memory_that_is_not_there(self):
-        # each call returns what it returns on the host, and what was sent there arrives
-        with socket.socket(socket.AF_INET, socket.SOCK_DGRAM) as receiver:
-            receiver.bind(("127.0.0.1", 0))
-            host = call([FAULTS, "127.0.0.1", str(receiver.getsockname()[1])])
-            texts = []
-            while not texts or texts[-1] != "last":
-                texts.append(receiver.recv(99).decode())
-        self.assertEqual((host.returncode, host.stderr), (0, ""))
-        self.assertEqual(texts, ["edge"] * 3 + ["at the end"] * 3 + ["name at the end", "last"])
-        self.assertEqual(len(re.findall(" -1 EFAULT", host.stdout)), FAULTS_COUNT)
-        for options in [["--stamps"], ["--stamps", "--seed", "1"]]:
-            out = self.on_links(["a,b,delay=1"], {
-                "b": RECEIVE_SOME.format(2),
-                "a": f"os.execv('{FAULTS}', ['s', B, str(PORT)])"}, *options)
-            self.assertEqual((self.folder / "a").read_text(), host.stdout)
-            self.assertEqual([(" ".join(line[:-1]), line[-1]) for line in out["b"]],
-                             [(text, SECOND) for text in texts])
-
     def test_both_directions(self):
         # 10 ms there and 30 ms back
         out = self.on_links(["a,b,delay=10ms", "b,a,delay=0.03"], {
@@ -122,13 +75,13 @@ class Datagrams(LinkTest):
                 time.sleep(1)
                 own = udp(A, PORT + 1); udp().sendto(b"own", (A, PORT + 1))
                 show(own.recv(9).decode())
-                own = udp("127.0.0.1", 0); udp().sendto(b"host", own.getsockname())
+                own = udp(HOST, 0); udp().sendto(b"host", own.getsockname())
                 show(own.recv(9).decode())
                 """,
             "c": "time.sleep(1); udp().sendto(b'c', AT_B)"},
             before=f"python3 -c \"import socket, time; time.sleep(0.5); s = socket.socket("
-                   "socket.AF_INET, socket.SOCK_DGRAM); s.sendto(b'p', "
-                   f"('{ADDRESSES['b']}', {PORT}))\" &")
+                   f"{self.family}, socket.SOCK_DGRAM); s.sendto(b'p', "
+                   f"('{self.addresses['b']}', {PORT}))\" &")
         self.assertEqual(out["b"], [["p", SECOND // 2 + 1], ["c", SECOND + 1]])
         self.assertEqual(out["a"], [["own", SECOND + 1], ["host", SECOND + 1]])
 

@@ -58,7 +58,7 @@ class Options(LinkTest):
 
     def test_wrong_addresses(self):
         for text in ["127.0.0.1", "127.0.0.0", "127.64.0.0", "127.255.0.1", "128.0.0.1", "10.0.0.1",
-                     "126.255.255.255", "127.0.0", "x", "", "::1"]:
+                     "126.255.255.255", "127.0.0", "x", ""]:
             with self.subTest(address=text):
                 self.assertEqual(self.fails("--node", f"a,address={text}"),
                                  f"--node a: address '{text}' isn't one from 127.0.0.2 to "
@@ -70,6 +70,36 @@ class Options(LinkTest):
                     "c", "--node", "d", "--", "true")
         for name in ["partition", "heal"]:
             self.assertIn("isn't a name", self.fails("--node", name))
+
+    def test_wrong_addresses_of_ipv6(self):
+        for text in ["::", "::1", ":", "fd00::g", "fd00:3", "fe80::1", "fe80::1%lo", "ff02::1",
+                     "::ffff:127.0.0.2", "::127.0.0.2", "fd00::3/128", "fd00::3 ", "[fd00::3]"]:
+            with self.subTest(address=text):
+                self.assertEqual(self.fails("--node", f"a,address={text}"),
+                                 f"--node a: address '{text}' isn't one of IPv6 for a node, such "
+                                 "as fd00::3")
+        self.assertEqual(self.fails("--node", "a,address=fd00::2", "--node",
+                                    "b,address=FD00:0:0::2"),
+                         "--node b: two nodes have this address")
+        self.assertEqual(self.fails("--node", "a,address=127.0.0.2,address=fd00::2", "--node",
+                                    "b,address=127.0.0.3,address=fd00::2"),
+                         "--node b: two nodes have this address")
+        for first, second in [("127.0.0.2", "127.0.0.3"), ("fd00::2", "fd00::3"),
+                              ("fd00::2", "fd00::2")]:
+            self.assertEqual(self.fails("--node", f"a,address={first},address={second}"),
+                             f"--node a: address '{second}' is its second one of this family")
+        self.assertEqual(self.fails("--counter", "sleeps", "--node", "a,address=127.0.0.2",
+                                    "--node", "b,address=fd00::2", "--link", "a,b"),
+                         "--link a,b: one node has an address of IPv4, the other of IPv6")
+
+    def test_an_address_that_the_machine_does_not_have(self):
+        # no machine has one of this prefix
+        nodes = ["--counter", "sleeps", "--node", "a,address=127.0.0.2,address=2001:db8::2",
+                 "--node", "b,address=127.0.0.3"]
+        self.assertEqual(self.fails(*nodes, "--link", "a,b"),
+                         "--node a: this machine has no address 2001:db8::2; "
+                         "ip -6 addr add 2001:db8::2/128 dev lo adds it")
+        self.run_on(*nodes, "--", "true")  # without links, nothing leads there
 
     def test_wrong_partitions(self):
         wrong = {
@@ -105,13 +135,17 @@ class Options(LinkTest):
             own = udp().detach()
             files = [(socket.SOL_SOCKET, socket.SCM_RIGHTS, array.array("i", [own] * n))
                      for n in (1, 2)]
+            addresses = [bytes(16), socket.inet_pton(socket.AF_INET6, "::ffff:" + B),
+                         socket.inet_pton(socket.AF_INET6, "fd00::b")]
+            def send(kind, node, address, lengths, family):
+                head = struct.pack("2I16s2IH26x", kind, node, address, *lengths, family)
+                for part in ([], files[:1], files[1:]):
+                    for size in (0, 10, 60, 72, 70000):
+                        s.sendmsg([(head + bytes(70000))[:size]], part, 0, name)
             for node in (0, 1, 3, 4, 2**32 - 1):
                 for kind, family in ((0, 0), (1, 0), (2, 0), (2, 2), (2, 10), (3, 0)):
                     for lengths in ((0, 0), (16, 0), (29, 0), (16, 513), (16, 10**9), (0, 30)):
-                        head = struct.pack("5IH26x", kind, node, 0x0300007f, *lengths, family)
-                        for part in ([], files[:1], files[1:]):
-                            for size in (0, 10, 48, 60, 70000):
-                                s.sendmsg([(head + bytes(70000))[:size]], part, 0, name)
+                        for address in addresses: send(kind, node, address, lengths, family)
             time.sleep(1); show("well")
             """
         out = self.on_links(["a,b"], {"a": text})

@@ -8,7 +8,8 @@ import unittest
 from links import ADDRESSES, OPTIONS, PORT, SECOND, LinkTest
 from runs import (CAN_FILTER, CAN_TRACE, IS_ROOT, OTHER, TKRUN, call, needs, needs_root,
                   program)
-from test_net_datagrams import RECEIVE_SOME, SEND_SOME, SENDS, TEXTS
+from test_net_datagrams import RECEIVE_SOME, SEND_SOME
+from test_net_sends import SENDS, TEXTS
 
 
 class Programs(LinkTest):
@@ -77,7 +78,8 @@ class Programs(LinkTest):
                 time.sleep(1)
                 env = {{"LD_PRELOAD": os.environ["LD_PRELOAD"]}}
                 os.execve("{SENDS}", ["s", B, str(PORT)], env)"""})
-        self.assertEqual([line[-1] for line in out["b"]], [2 * SECOND + 1] * len(TEXTS))
+        # the longest one comes last
+        self.assertEqual([line[-1] for line in out["b"]], [2 * SECOND + 1] * (len(TEXTS) + 1))
 
     @needs_root("starts a program as another user")
     @unittest.skipUnless(CAN_FILTER, "the kernel lets no filter ask tkrun")

@@ -3,7 +3,7 @@ their arrival. And the stamps of packets to another node: the sender's own time,
 import textwrap
 import unittest
 
-from links import ADDRESSES, MILLI, OPTIONS, PRELUDE, SECOND, START, LinkTest
+from links import MILLI, PRELUDE, SECOND, START, LinkTest, options_of
 from runs import STILL
 
 AHEAD, PPM = 7, 100
@@ -21,8 +21,10 @@ RECEIVE = """
 
 
 class Stamps(LinkTest):
-    options = [*STILL, "--start", START, "--stamps", "--node", f"a,address={ADDRESSES['a']}",
-               "--node", f"b,address={ADDRESSES['b']},error-ppm={PPM},ahead={AHEAD}"]
+    def make_options(self):
+        return [*STILL, "--start", START, "--stamps",
+                "--node", f"a,address={self.addresses['a']}",
+                "--node", f"b,address={self.addresses['b']},error-ppm={PPM},ahead={AHEAD}"]
 
     def at_b(self, common):
         """What REALTIME of b is at a time of the common counter, after the start of a, in ns."""
@@ -65,7 +67,7 @@ class Stamps(LinkTest):
             """
         out = self.on_links(["a,b"], {"b": text})
         self.assertEqual([line[0] for line in out["b"]], ["ENOPROTOOPT"] * 10 + ["takes"] * 4)
-        self.options = OPTIONS  # without --stamps
+        self.options = options_of(self.addresses)  # without --stamps
         out = self.on_links(["a,b"], {"b": text})
         self.assertEqual([line[0] for line in out["b"]], ["ENOPROTOOPT"] * 14)
 
@@ -97,7 +99,7 @@ SEND = """
                   text[-3:].decode() if len(text) > 28 else "none")
 """
 RECEIVE_ALL = """
-    s = socket.socket(socket.AF_INET, socket.SOCK_DGRAM); s.bind(AT_B)
+    s = udp(*AT_B)
     for i in range(3): print(s.recv(9).decode())
     s.settimeout(10)
     try: s.recv(9)
@@ -107,9 +109,13 @@ RECEIVE_ALL = """
 
 class StampsOfWhatIsSent(LinkTest):
     prelude = PRELUDE + textwrap.dedent(SEND)
-    options = [*STILL, "--start", START, "--stamps", "--node",
-               f"a,address={ADDRESSES['a']},error-ppm={PPM},ahead={AHEAD}", "--node",
-               f"b,address={ADDRESSES['b']}"]
+    more_calls = [("socket.socket(socket.AF_INET6, socket.SOCK_DGRAM)",
+                   "s.sendto(t, ('::ffff:' + B, PORT))")]
+
+    def make_options(self):
+        return [*STILL, "--start", START, "--stamps",
+                "--node", f"a,address={self.addresses['a']},error-ppm={PPM},ahead={AHEAD}",
+                "--node", f"b,address={self.addresses['b']}"]
 
     def sent(self, text, receiver=RECEIVE_ALL, link="a,b,delay=20ms"):
         """What a sender prints, whose datagrams arrive once."""
@@ -135,9 +141,7 @@ class StampsOfWhatIsSent(LinkTest):
                 ("udp()", "s.sendto(t, AT_B)"), ("udp()", "s.sendmsg([t[:1], t[1:]], [], 0, AT_B)"),
                 ("udp(); s.connect(AT_B)", "s.send(t)"),
                 ("udp(); s.connect(AT_B)", "os.write(s.fileno(), t)"),
-                ("udp(A, PORT)", "s.sendto(t, AT_B)"),
-                ("socket.socket(socket.AF_INET6, socket.SOCK_DGRAM)",
-                 "s.sendto(t, ('::ffff:' + B, PORT))")]:
+                ("udp(A, PORT)", "s.sendto(t, AT_B)"), *self.more_calls]:
             for when in ["", "time.sleep(7)"]:
                 with self.subTest(make=make, send=send, when=when):
                     out = self.on_links(["a,b,delay=20ms"], {
@@ -182,7 +186,7 @@ class StampsOfWhatIsSent(LinkTest):
         out = self.on_links(["a,b,delay=20ms"], {
             "a": "time.sleep(1); s = socket.create_connection(AT_B); ask(s, 0x89a); start = now()\n"
                  "for t in (b'000', b'111'): s.send(t); print(now()); stamps(s); time.sleep(1)",
-            "b": "s = socket.create_server(AT_B).accept()[0]\nwhile s.recv(9): pass"})
+            "b": "s = server(AT_B).accept()[0]\nwhile s.recv(9): pass"})
         times = out["a"][::2]
         self.assertEqual(out["a"][1::2], [[2, *times[0], "ENOMSG", "none"],
                                           [5, *times[1], "ENOMSG", "none"]])

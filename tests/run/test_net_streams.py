@@ -3,7 +3,7 @@ starts at 0, and a sleep of a second ends 1 ns after it."""
 import unittest
 import zlib
 
-from links import (ADDRESSES, BACK, LINKS, MILLI, NOW, PORT, SECOND, STREAMS, THERE, LinkTest)
+from links import BACK, LINKS, MILLI, NOW, PORT, SECOND, STREAMS, THERE, LinkTest
 from runs import CAN_FILTER, CAN_TRACE
 
 WINDOW = 4 << 20  # the most bytes of one direction on their way
@@ -81,7 +81,7 @@ class Streams(LinkTest):
 
     def test_a_receiver_that_does_not_read(self):
         out = self.on_links(["a,b,delay=1ms"], {
-            "b": "l = socket.create_server(AT_B); s = l.accept()[0]; time.sleep(100)\n"
+            "b": "l = server(AT_B); s = l.accept()[0]; time.sleep(100)\n"
                  "total = 0\nwhile n := len(s.recv(1 << 20)): total += n\nshow(total)",
             "a": "time.sleep(1); s = connect(); s.sendall(bytes(3 * 10**7)); show('sent')"})
         self.assertEqual(out["b"][0][0], 3 * 10**7)
@@ -119,7 +119,7 @@ class Streams(LinkTest):
 
     def test_one_end_goes_on(self):
         out = self.on_links(LINKS, {
-            "b": "l = socket.create_server(AT_B); s = l.accept()[0]; s.shutdown(socket.SHUT_WR)\n"
+            "b": "l = server(AT_B); s = l.accept()[0]; s.shutdown(socket.SHUT_WR)\n"
                  "while data := s.recv(9): show(data.decode())\nshow('end')",
             "a": "time.sleep(1); s = connect(); show(s.recv(9)); time.sleep(1); s.send(b'on'); "
                            "time.sleep(1); s.close()"})
@@ -135,7 +135,7 @@ try: s.recv(9)
 except OSError as error: show(errno.errorcode[error.errno])
 """
         abort = "reset(s)"
-        accept = "l = socket.create_server(AT_B); s = l.accept()[0]"
+        accept = "l = server(AT_B); s = l.accept()[0]"
         connected = NOW + THERE + BACK
         out = self.on_links(LINKS, {"b": accept + wait,
                                     "a": f"time.sleep(1); s = connect(); {abort}"})
@@ -158,7 +158,7 @@ except OSError as error: show(errno.errorcode[error.errno])
 
     def test_a_reset_is_an_error_of_poll(self):
         out = self.on_links(LINKS, {
-            "b": "l = socket.create_server(AT_B); s = l.accept()[0]; time.sleep(1)\n"
+            "b": "l = server(AT_B); s = l.accept()[0]; time.sleep(1)\n"
                  "reset(s)",
             "a": """
     time.sleep(1)
@@ -207,7 +207,7 @@ except OSError as error: show(errno.errorcode[error.errno])
         out = self.on_links(["a,b,delay=1ms,rate=20M"], {
             "b": """
     import threading
-    l = socket.create_server(AT_B); wrong = []
+    l = server(AT_B); wrong = []
     def serve(s):
         text = b""
         try:
@@ -237,7 +237,8 @@ except OSError as error: show(errno.errorcode[error.errno])
         # a server needs nothing: it may be one that hasn't loaded the library
         out = self.on_links(LINKS, {
             "b": f"os.execve(sys.executable, ['p', '-c', 'import socket; "
-                 f"s = socket.create_server((\"{ADDRESSES['b']}\", {PORT})).accept()[0]; "
+                 f"s = socket.create_server((\"{self.addresses['b']}\", {PORT}), "
+                 f"family={self.family}).accept()[0]; "
                  "s.send(s.recv(9))'], {})",
             "a": "time.sleep(1); s = connect(); s.send(b'back'); show(s.recv(9).decode())"},
             says="tkrun: 'python3' (process N) sends to other nodes as if there were no link: it "
@@ -288,18 +289,6 @@ except OSError as error: show(errno.errorcode[error.errno])
         self.assertEqual(out["a"][-1], ["files", 0])
         self.assertEqual([line[0] for line in out["a"]].count("ECONNREFUSED"), 6)
 
-    def test_many_connections(self):
-        out = self.on_links(["a,b,delay=1"], {
-            "b": """
-    l = socket.create_server(AT_B, backlog=4096); all = [l.accept()[0] for _ in range(300)]
-    print(sum(int(s.recv(9)) for s in all), now() // 10**6)
-    """, "a": """
-    time.sleep(1); all = []
-    for i in range(300):
-        s = socket.socket(); s.setblocking(False); s.connect_ex(AT_B); all.append(s)
-    for i, s in enumerate(all): select.select([], [s], []); s.send(b"%d" % i)
-    """})
-        self.assertEqual(out["b"], [[sum(range(300)), 4000]])
 
 
 if __name__ == "__main__":

@@ -1,0 +1,28 @@
+"""Brings the loopback interface of a new network up, gives it addresses of IPv6, and executes a
+command.
+
+    unshare -n python3 in_network.py ADDRESS.. -- COMMAND..
+"""
+import fcntl
+import os
+import socket
+import struct
+import sys
+
+IOCTLS = {"up": 0x8914, "address": 0x8916}  # SIOCSIFFLAGS, SIOCSIFADDR
+UP, LOOPBACK = 1, 1  # IFF_UP, and the index of the interface
+
+
+def main():
+    end = sys.argv.index("--")
+    with socket.socket(socket.AF_INET, socket.SOCK_DGRAM) as four:
+        fcntl.ioctl(four, IOCTLS["up"], struct.pack("16sH14x", b"lo", UP))
+    with socket.socket(socket.AF_INET6, socket.SOCK_DGRAM) as six:
+        for address in sys.argv[1:end]:
+            fcntl.ioctl(six, IOCTLS["address"], struct.pack(
+                "=16sIi", socket.inet_pton(socket.AF_INET6, address), 128, LOOPBACK))
+    os.execvp(sys.argv[end + 1], sys.argv[end + 1:])
+
+
+if __name__ == "__main__":
+    main()
