@@ -17,6 +17,7 @@
 
 enum {
 	CALLS_BITS = 10, /* a turn has up to 2^CALLS_BITS calls */
+	TRY_CALLS = 1 << CALLS_BITS, /* of a thread that tries its lock */
 	RETRY_TIMES = 64, /* moves of the counter, from one try of the blocked threads to the next */
 };
 
@@ -220,9 +221,11 @@ static bool try_blocked(struct run *run, int32_t threads[PARKED_MOST])
 	while (next < count && threads[next] <= last)
 		next++;
 	last = next < count ? threads[next] : 0;
-	if (last)
-		let_go(run, last, PARKED_BLOCKED);
-	return last;
+	if (!last)
+		return false;
+	atomic_store(&table->calls_left, TRY_CALLS);
+	let_go(run, last, PARKED_BLOCKED);
+	return true;
 }
 
 /* Lets the threads look that wait for space. All of them may at once: they change nothing. Returns

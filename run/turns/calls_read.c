@@ -50,7 +50,9 @@ EXPORT long syscall(long number, ...)
 	for (int i = 0; i < 6; i++)
 		a[i] = va_arg(list, long);
 	va_end(list);
+	if (is_signal(number))
+		turn_give(CALLER);
 	result = REAL(syscall)(number, a[0], a[1], a[2], a[3], a[4], a[5]);
-	(is_signal(number) ? turn_pass(CALLER) : (void)turn_need(CALLER));
+	(is_signal(number) ? turn_have(CALLER) : (void)turn_need(CALLER));
 	return result;
 }

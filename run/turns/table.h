@@ -19,6 +19,8 @@
  *    wait, and one has had the turn or time has moved since it has looked, tkrun makes it
  *    PARKED_LOOKING: it looks whether there is space. If there is, it needs the turn. So there is
  *    space for it when the order of turns says so, whenever the kernel has moved bytes.
+ * 7. A signal may come before its thread has an entry, or afterwards. A handler that needs the turn
+ *    parks, too, and gets it for both. So the moment of the signal doesn't change the order.
  */
 #ifndef TABLE_H
 #define TABLE_H
@@ -77,7 +79,7 @@ struct turns {
 	uint32_t layout;
 	_Atomic uint32_t is_off; /* threads need no turn any more */
 	_Alignas(64) _Atomic int32_t holder; /* the thread that has the turn, or 0 */
-	_Atomic uint32_t calls_left; /* until it parks */
+	_Atomic uint32_t calls_left; /* until it parks; 0 if it needs another turn */
 	_Atomic uint32_t is_waited;  /* another thread waits for files in the kernel */
 	_Atomic uint32_t count;	     /* entries that were ever taken */
 	_Atomic uint32_t blocked;    /* at least how many threads wait for locks */

@@ -18,20 +18,37 @@ static uint32_t ready_word(const struct parked *entry)
 	return (atomic_load(&entry->word) & ~(uint32_t)STATE_MASK) | PARKED_READY;
 }
 
-/* Waits for the turn. If a handler has parked meanwhile, it has got the turn for this wait, too, and
- * the entry is free or another thread's. */
+/* A thread that has made the last call of its turn, or has given it back, needs another one. */
+static bool has_turn(void)
+{
+	return atomic_load(&turns_table->holder) == turn_thread() &&
+	       atomic_load(&turns_table->calls_left);
+}
+
+/* Lists this thread as one that needs the turn. Returns NULL if it has the turn by now: a handler
+ * that came before the entry was there has parked, and has got the turn for this wait, too. */
+static struct parked *enter_ready(void)
+{
+	struct parked *entry = parked_enter(turn_thread(), PARKED_READY, 0);
+
+	if (!entry || !has_turn())
+		return entry;
+	parked_leave(entry);
+	return NULL;
+}
+
+/* Waits for the turn. If a handler has parked meanwhile, it has got the turn for this wait, too,
+ * and the entry is free or another thread's. */
 static void park(void)
 {
 	int32_t thread = turn_thread();
-	struct parked *entry = parked_enter(thread, PARKED_READY, 0);
+	struct parked *entry = enter_ready();
 	uint32_t word = entry ? ready_word(entry) : 0, now;
 
 	while (entry && turn_is_on()) {
 		now = atomic_load(&entry->word);
 		if (atomic_load(&entry->thread) != thread || (now ^ word) & ~STATE_MASK) {
-			entry = atomic_load(&turns_table->holder) == thread
-					? NULL
-					: parked_enter(thread, PARKED_READY, 0);
+			entry = has_turn() ? NULL : enter_ready();
 			word = entry ? ready_word(entry) : 0;
 		} else if (now != word) {
 			break;
@@ -53,17 +70,18 @@ static bool is_borrowed(void)
 /* Returns whether it is one that would have to wait. */
 static bool is_borrowed_wait(void)
 {
-	return atomic_load(&turns_table->holder) != turn_thread() && is_borrowed();
+	return !has_turn() && is_borrowed();
 }
 
-/* Counts a call of the thread that has the turn, also if it has parked in it: a signal may come before
- * it parks or after that, and its handler makes the same calls. Returns whether it is to park. */
+/* Counts a call of the thread that has the turn, also if it has parked in it: a signal may come
+ * before it parks or after that, and its handler makes the same calls. Returns whether it is to
+ * park. */
 static bool is_last_call(void)
 {
-	uint32_t left = atomic_load_explicit(&turns_table->calls_left, memory_order_relaxed);
+	uint32_t left = atomic_load(&turns_table->calls_left);
 
-	if (left)
-		atomic_store_explicit(&turns_table->calls_left, left - 1, memory_order_relaxed);
+	while (left && !atomic_compare_exchange_weak(&turns_table->calls_left, &left, left - 1))
+		;
 	return left == 1;
 }
 
@@ -81,26 +99,33 @@ bool turn_need(const void *caller)
 {
 	if (!turn_is_for(caller) || is_borrowed_wait())
 		return false;
-	if (atomic_load(&turns_table->holder) != turn_thread())
+	if (!has_turn())
 		park();
-	if (!is_last_call() || is_borrowed())
-		return true;
-	park();
-	is_last_call();
+	while (is_last_call() && !is_borrowed())
+		park();
 	return true;
 }
 
 void turn_have(const void *caller)
 {
-	if (turn_is_for(caller) && atomic_load(&turns_table->holder) != turn_thread() &&
-	    !is_borrowed())
+	if (turn_is_for(caller) && !has_turn() && !is_borrowed())
 		park();
+}
+
+void turn_give(const void *caller)
+{
+	turn_have(caller);
+	if (turn_is_own(caller) && has_turn())
+		atomic_store(&turns_table->calls_left, 0);
 }
 
 void turn_pass(const void *caller)
 {
-	if (turn_is_for(caller) && !is_borrowed())
-		park();
+	if (!turn_is_own(caller))
+		return;
+	if (has_turn())
+		atomic_store(&turns_table->calls_left, 0);
+	park();
 }
 
 /* Waits until the thread isn't blocked any more. */
@@ -134,7 +159,7 @@ enum block_end turn_block(uint64_t key, bool is_cancelled, const struct limit *l
 	end = wait_blocked(entry, is_cancelled, limit);
 	parked_leave(entry);
 	atomic_fetch_sub(&turns_table->blocked, 1);
-	if (turn_is_on() && atomic_load(&turns_table->holder) != turn_thread())
+	if (turn_is_on() && !has_turn())
 		park();
 	return end;
 }
@@ -167,7 +192,7 @@ enum block_end turn_look(bool (*is_there)(void *), void *what, const struct limi
 	}
 	if (entry)
 		parked_leave(entry);
-	if (turn_is_on() && atomic_load(&turns_table->holder) != thread)
+	if (turn_is_on() && !has_turn())
 		park();
 	return end;
 }

@@ -53,15 +53,16 @@
 void *turn_real_call(const char *name);
 
 /* Defines a call that lets other threads act at once, by signals or in the kernel. What they do
- * before they park is done when it returns. */
+ * before they park is done when it returns. A signal that they cause may come before this thread
+ * parks: its handler waits for the next turn, as it would after that. */
 #define PASS(type, name, parameters, arguments)        \
 	EXPORT type name parameters                    \
 	{                                              \
 		type result;                           \
                                                        \
-		turn_have(CALLER);                     \
+		turn_give(CALLER);                     \
 		result = REAL(name) arguments;         \
-		turn_pass(CALLER);                     \
+		turn_have(CALLER);                     \
 		return result;                         \
 	}
 
@@ -85,8 +86,10 @@ bool turn_need(const void *caller);
 void turn_pass(const void *caller);
 
 /* The same before a call: it isn't counted, and most threads have the turn. A handler may not, and
- * a thread that has waited by a call that isn't covered. */
+ * a thread that has waited by a call that isn't covered. After the other, the thread needs the next
+ * turn, and so do its handlers. */
 void turn_have(const void *caller);
+void turn_give(const void *caller);
 
 /* A time of a clock until which a thread waits. */
 struct limit {

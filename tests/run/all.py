@@ -3,8 +3,8 @@
     all.py [--all]
     all.py [--part NUMBER/COUNT] MODULE..
 
-Without a module, it runs the quick ones, and with --all those of servers, 2,000 kills and 20 runs of
-a seed too. Each module runs in a process of its own, or in several if it takes long: then each runs
+Without a module, it runs the quick ones, and with --all those of servers, 2,000 kills, 20 runs of a
+seed and 400 threads too. Each module runs in a process of its own, or in several if it takes long: then each runs
 a part of its tests. One more process runs at once than there are processors, and next to them as
 many of the modules whose tests mostly wait for the host's time. What they print is printed in the
 order of their names. No test is run twice: each holds on a busy machine too.
@@ -25,7 +25,8 @@ WAITING = {"test_chrony": 1, "test_kernel": 8, "test_waits": 8}
 FIRST = {"test_masks": 5, "test_nodes": 2, "test_python": 1, "test_check": 1, "test_calls": 1,
          "test_net_streams": 2, "test_net_connections": 1, "test_net_datagrams": 1,
          "test_net_six": 4}
-LONG = ["test_many_seeds", "test_many_kills", "test_postgresql", "test_redis", "test_nginx"]
+LONG = ["test_many_seeds", "test_many_kills", "test_many_threads", "test_postgresql", "test_redis",
+        "test_nginx"]
 
 
 def tests_in(suite):

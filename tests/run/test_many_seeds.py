@@ -1,15 +1,16 @@
 """--seed: 20 runs of one seed are equal, of three servers in Python that elect leaders through
-partitions (raft.py), and of three chronyd."""
+partitions (raft.py), and of three chronyd, and six of a redis with three sentinels."""
 import pathlib
 import re
 import shutil
 import unittest
 
 from links import ADDRESSES, PORT, LinkTest
-from runs import STILL, TKRUN, needs_root
+from runs import STILL, TKRUN, needs, needs_root
 
 CHRONYD = shutil.which("chronyd", path="/usr/sbin:/sbin:/usr/bin:/bin")
 RUNS, SEEDS = 20, 4
+FEWER = 6  # runs of redis, which take longer
 RAFT = pathlib.Path(__file__).with_name("raft.py")
 # each server is alone for a while, so a leader is
 ALONE = {"a": (3, 5), "b": (7, 9), "c": (11, 13)}
@@ -26,28 +27,53 @@ DAEMONS = """
         {tkrun} node $n -- {daemon} -f {folder}/$n >$n.out 2>&1 & P="$P $!"
     done
     sleep 3600; kill $P; wait"""
+# The redis of b follows that of a, which is killed: two of three sentinels must find that. Without
+# MALLOC_CONF, the memory allocator of redis reads a clock after a number of bytes, and so at other
+# times if a variable is longer.
+SENTINELS = r"""
+    export MALLOC_CONF=dirty_decay_ms:-1,muzzy_decay_ms:-1
+    a={a} b={b} c={c} P=
+    for n in a b; do
+        eval address=\$$n
+        [ $n = a ] && of= || of="--replicaof $a {port}"
+        {tkrun} node $n -- redis-server --port {port} --bind $address --protected-mode no \
+            --save '' --repl-diskless-sync-delay 0 --hz 1 $of >$n.log 2>&1 & P="$P $!"
+    done
+    set -- $P; sleep 3
+    for n in a b c; do
+        eval address=\$$n
+        printf '%s\n' 'port {other}' "bind $address" 'protected-mode no' \
+            "sentinel monitor it $a {port} 2" 'sentinel down-after-milliseconds it 3000' \
+            'sentinel failover-timeout it 3000' >$n.conf
+        {tkrun} node $n -- redis-sentinel $n.conf >$n.out 2>&1 & P="$P $!"
+    done
+    sleep 5; kill -9 $1; sleep 15; set -- $P; shift; kill $@; wait"""
+CLIENT = re.compile(r"(?<= addr=)[0-9.:]+")  # in a log of redis: the kernel chooses the port
 COMMON = "cmdport 0\nbindcmdaddress /\nclockprecision 1e-9\n"
 
 
 class Seeds(LinkTest):
-    def make(self, seed, session, *options):
+    more = ()  # the other files of a session
+
+    def make(self, seed, session, *options, env=None):
         """Runs a session on three nodes, in an empty folder. Returns the records and outputs."""
         folder = self.folder / "run"
         folder.mkdir()
         run = self.start("--quiet", *STILL, "--seed", seed, "--start", 10**9, "--record",
                          folder / "r", "--check", *options, "--", "sh", "-c",
-                         f"cd {folder}\n{session}")
+                         f"cd {folder}\n{session}", env=env)
         self.assertEqual((run.returncode, run.stdout, run.stderr), (0, "", ""))
-        texts = {path.name: path.read_text() for path in sorted(folder.iterdir())}
-        self.assertEqual([*texts], [*(f"{n}.out" for n in "abc"), "r", "r.a", "r.b", "r.c",
-                                    "r.nodes"])
+        texts = {path.name: CLIENT.sub("", path.read_text("latin-1"))
+                 for path in sorted(folder.iterdir())}
+        self.assertEqual([*texts], sorted([*(f"{n}.out" for n in "abc"), "r", "r.a", "r.b", "r.c",
+                                           "r.nodes", *self.more]))
         shutil.rmtree(folder)
         return texts
 
-    def check_seeds(self, *arguments):
+    def check_seeds(self, *arguments, runs=RUNS):
         """Compares runs of one seed, and of others. Returns those of each seed."""
         seeds = {seed: self.make(seed, *arguments) for seed in range(SEEDS)}
-        for i in range(RUNS - 1):
+        for i in range(runs - 1):
             with self.subTest(i):
                 self.assertEqual(self.make(0, *arguments), seeds[0])
         for name in ("r", "r.a", "r.b", "r.c"):
@@ -90,3 +116,20 @@ class Seeds(LinkTest):
         for texts in self.check_seeds(text, *nodes, *links):
             for name in "bc":
                 self.assertIn("Selected source", texts[f"{name}.out"])
+
+    @needs_root("lets processes have equal numbers")
+    @needs("redis-server")
+    @needs("redis-sentinel")
+    def test_redis_with_sentinels(self):
+        self.more = ["a.conf", "b.conf", "c.conf", "a.log", "b.log", "dump.rdb"]
+        nodes = [word for name, address in ADDRESSES.items()
+                 for word in ("--node", f"{name},address={address}")]
+        links = [word for pair in ("a,b", "a,c", "b,c")
+                 for word in ("--link", f"{pair},delay=5ms,jitter=1ms")]
+        text = SENTINELS.format(tkrun=TKRUN, port=PORT, other=PORT + 1, **ADDRESSES)
+        said = f"+switch-master it {ADDRESSES['a']} {PORT} {ADDRESSES['b']} {PORT}"
+        seeds = list(self.check_seeds(text, *nodes, *links, runs=FEWER))
+        for texts in seeds:
+            for name in "abc":
+                self.assertIn(said, texts[f"{name}.out"])
+        self.assertEqual(self.make(0, text, *nodes, *links, env={"LONG": "x" * 20000}), seeds[0])

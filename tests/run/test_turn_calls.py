@@ -57,6 +57,15 @@ class Calls(RunTest):
         self.assertIn("4 4 ", shown[1] + shown[2])
         self.assertIn("7 7 ", shown[1] + shown[2])
 
+    def test_handlers_at_any_moment(self):
+        # as SIGCHLD: while the pipe of a child that ends wakes its reader, and after a kill
+        for call in ("read", "kill"):
+            shown = {self.run_on(*STILL, "--seed", 3, "--", program("turn_steps"), call, first)
+                     for first in (0, 40, 80)}
+            with self.subTest(call):
+                self.assertEqual(len(shown), 1)
+                self.assertEqual(shown.pop().count("."), 125)
+
     @unittest.skipUnless(shutil.which("bash"), "bash isn't installed")
     def test_children_of_a_shell(self):
         # their ends come by a signal that is handled, while others run
