@@ -1,12 +1,13 @@
 """--seed: 20 runs of one seed are equal, of three servers in Python that elect leaders through
 partitions (raft.py), and of three chronyd, and six of a redis with three sentinels."""
+import faulthandler
 import pathlib
 import re
 import shutil
 import unittest
 
 from links import ADDRESSES, PORT, LinkTest
-from runs import STILL, TKRUN, needs, needs_root
+from runs import SECONDS, STILL, TKRUN, needs, needs_root
 
 CHRONYD = shutil.which("chronyd", path="/usr/sbin:/sbin:/usr/bin:/bin")
 RUNS, SEEDS = 20, 4
@@ -59,6 +60,7 @@ class Seeds(LinkTest):
         """Runs a session on three nodes, in an empty folder. Returns the records and outputs."""
         folder = self.folder / "run"
         folder.mkdir()
+        faulthandler.dump_traceback_later(2 * SECONDS, exit=True)  # for this run, not for the test
         run = self.start("--quiet", *STILL, "--seed", seed, "--start", 10**9, "--record",
                          folder / "r", "--check", *options, "--", "sh", "-c",
                          f"cd {folder}\n{session}", env=env)
