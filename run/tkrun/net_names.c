@@ -89,7 +89,8 @@ void net_check_addresses(const struct run *run)
 		inet_ntop(AF_INET6, &own, text, sizeof(text));
 		fail_within(run->nodes[i].options.name);
 		fail(STATUS_WRONG,
-		     "this machine has no address %s; ip -6 addr add %s/128 dev lo adds it", text,
-		     text);
+		     "this machine has no address %s; ip -6 addr add %s/128 dev lo nodad adds "
+		     "it",
+		     text, text);
 	}
 }

@@ -98,7 +98,7 @@ class Options(LinkTest):
                  "--node", "b,address=127.0.0.3"]
         self.assertEqual(self.fails(*nodes, "--link", "a,b"),
                          "--node a: this machine has no address 2001:db8::2; "
-                         "ip -6 addr add 2001:db8::2/128 dev lo adds it")
+                         "ip -6 addr add 2001:db8::2/128 dev lo nodad adds it")
         self.run_on(*nodes, "--", "true")  # without links, nothing leads there
 
     def test_wrong_partitions(self):
