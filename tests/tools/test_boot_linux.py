@@ -48,3 +48,10 @@ class Boot(Case):
         self.assertIn("-smp 4 -rtc base=utc -nic user,model=e1000", console)
         self.assertIn(" no_timer_check\n", console)
         self.assertNotIn("icount", console)
+
+    def test_a_guest_runs_on_the_emulator_or_on_kvm(self):
+        words = 'echo "$*"\necho "guest: done"'
+        self.assertIn("-accel tcg -cpu max ", self.boot(words, "--real", "4")[1])
+        console = self.boot(words, "--real", "4", "--kvm")[1]
+        self.assertIn("-accel kvm -cpu host ", console)
+        self.assertNotIn("tcg", console)

@@ -59,6 +59,14 @@ class CheckLinux(Case):
         wanted = ["late.py", "process.py", "build", "selftests", "compare"]
         self.assertEqual((0, wanted), self.check())
 
+    def test_a_long_run_builds_the_other_kernels_when_only_their_sources_change(self):
+        self.assertEqual((0, ["build", "build"]), self.check("--long", "--build"))
+        self.assertEqual((0, []), self.check("--long", "--build"))
+        with open(self.top / "ports/linux/config.more", "a", encoding="utf-8") as config:
+            config.write("CONFIG_DEBUG_FS=y\n")
+        self.assertEqual((0, ["build"]), self.check("--long", "--build"))
+        self.assertEqual((0, []), self.check("--build"))
+
     def until(self, is_so):
         for _ in range(600):
             if is_so():
