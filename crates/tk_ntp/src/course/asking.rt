@@ -14,7 +14,7 @@ use crate::bits::{ADJ_ADJTIME, ADJ_FREQUENCY, ADJ_OFFSET, ADJ_TICK, has};
 use crate::discipline::asked_tai;
 use crate::reply::Reply;
 use crate::timex::Timex;
-use tk_clock::{Clock, Clocks, Command, Refusal, Timespec};
+use tk_clock::{Clock, Clocks, Command, Entry, Refusal, Timespec};
 use tk_counter::FREQUENCY_LIMIT;
 
 /// The most entries that a request makes: a step, the TAI offset, and twice the tick and the
@@ -64,7 +64,8 @@ impl Course {
         let Some(by) = request.step() else {
             return self.request(clocks, who, reading, request);
         };
-        self.command(clocks, who, reading, Command::Step(by))?;
+        let cmd = Command::Step(by);
+        self.command(clocks, Entry { who, reading, cmd })?;
         self.request(clocks, who, reading, request)
     }
 

@@ -15,7 +15,7 @@ use super::Course;
 use super::advancing::SECOND_ENTRIES_LIMIT;
 use super::asking::{request_of, without_reply};
 use super::giving::give;
-use tk_clock::{Clock, ClockId, Clocks, Command, Refusal};
+use tk_clock::{Clock, ClockId, Clocks, Command, Entry, Refusal};
 use tk_counter::{CounterDesc, NANOS_PER_SECOND};
 
 impl Course {
@@ -41,43 +41,33 @@ impl Course {
         if let Command::Update = cmd {
             return self.apply_update(clocks, who, reading);
         }
-        self.apply_any(clocks, who, reading, cmd)
+        self.apply_any(clocks, Entry { who, reading, cmd })
     }
 
     /// Applies any command, as `apply` does. It is out of line, so that most updates don't reserve
     /// its stack.
     #[inline(never)]
-    fn apply_any<C: Clocks>(
-        &mut self,
-        clocks: &mut C,
-        who: u32,
-        reading: u64,
-        cmd: Command,
-    ) -> Result<(), Refusal>
-        ensures { IsAppliedTo C.state C.is_after C.has_room C.is_short who reading cmd clocks.old
-            self.old result clocks.new self.new }
+    fn apply_any<C: Clocks>(&mut self, clocks: &mut C, entry: Entry) -> Result<(), Refusal>
+        ensures { IsAppliedTo C.state C.is_after C.has_room C.is_short entry.who entry.reading
+            entry.cmd clocks.old self.old result clocks.new self.new }
     {
-        match request_of(cmd) {
-            Some(request) => without_reply(self.adjtimex(clocks, who, reading, &request)),
-            None => self.apply_plain(clocks, who, reading, cmd),
+        match request_of(entry.cmd) {
+            Some(request) => {
+                without_reply(self.adjtimex(clocks, entry.who, entry.reading, &request))
+            }
+            None => self.apply_plain(clocks, entry),
         }
     }
 
     /// Applies a command that is neither `Freq` nor `Tick`.
-    fn apply_plain<C: Clocks>(
-        &mut self,
-        clocks: &mut C,
-        who: u32,
-        reading: u64,
-        cmd: Command,
-    ) -> Result<(), Refusal>
-        ensures { IsPlainTo C.state C.is_after C.has_room C.is_short (is_resume cmd) who reading cmd
-            clocks.old self.old result clocks.new self.new }
+    fn apply_plain<C: Clocks>(&mut self, clocks: &mut C, entry: Entry) -> Result<(), Refusal>
+        ensures { IsPlainTo C.state C.is_after C.has_room C.is_short (is_resume entry.cmd) entry.who
+            entry.reading entry.cmd clocks.old self.old result clocks.new self.new }
     {
-        match cmd {
-            Command::Resume(_) => self.apply_direct(clocks, who, reading, cmd),
-            Command::Update => self.apply_late(clocks, who, reading),
-            _ => self.apply_awake(clocks, who, reading, cmd),
+        match entry.cmd {
+            Command::Resume(_) => self.apply_direct(clocks, entry),
+            Command::Update => self.apply_late(clocks, entry.who, entry.reading),
+            _ => self.apply_awake(clocks, entry),
         }
     }
 
@@ -114,7 +104,8 @@ impl Course {
         if self.is_settled(clocks.clock(), reading) && clocks.is_ready(SECOND_ENTRIES_LIMIT) {
             return self.apply_settled(clocks, who, reading);
         }
-        self.apply_awake(clocks, who, reading, Command::Update)
+        let cmd = Command::Update;
+        self.apply_awake(clocks, Entry { who, reading, cmd })
     }
 
     /// Applies an update at a reading up to which no second is due, and that is not behind the last
@@ -135,90 +126,66 @@ impl Course {
         ensures { IsCommandedTo C.state C.is_after C.has_room C.is_short who reading Update
             clocks.old self.old result clocks.new self.new }
     {
-        give(clocks, who, reading, Command::Update)?;
+        let cmd = Command::Update;
+        give(clocks, Entry { who, reading, cmd })?;
         self.account(clocks.clock(), reading);
         Ok(())
     }
 
     /// Applies a command after the seconds up to its reading have begun.
-    fn apply_awake<C: Clocks>(
-        &mut self,
-        clocks: &mut C,
-        who: u32,
-        reading: u64,
-        cmd: Command,
-    ) -> Result<(), Refusal>
-        ensures { IsFollowedTo C.state C.is_after C.has_room C.is_short who reading cmd
-            clocks.old self.old result clocks.new self.new }
+    fn apply_awake<C: Clocks>(&mut self, clocks: &mut C, entry: Entry) -> Result<(), Refusal>
+        ensures { IsFollowedTo C.state C.is_after C.has_room C.is_short entry.who entry.reading
+            entry.cmd clocks.old self.old result clocks.new self.new }
     {
-        self.advance(clocks, false, who, reading)?;
-        self.apply_direct(clocks, who, reading, cmd)
+        self.advance(clocks, false, entry.who, entry.reading)?;
+        self.apply_direct(clocks, entry)
     }
 
     /// Applies a command for which no second begins.
-    fn apply_direct<C: Clocks>(
-        &mut self,
-        clocks: &mut C,
-        who: u32,
-        reading: u64,
-        cmd: Command,
-    ) -> Result<(), Refusal>
-        ensures { IsDirectTo C.state C.is_after C.has_room C.is_short who reading cmd
-            clocks.old self.old result clocks.new self.new }
+    fn apply_direct<C: Clocks>(&mut self, clocks: &mut C, entry: Entry) -> Result<(), Refusal>
+        ensures { IsDirectTo C.state C.is_after C.has_room C.is_short entry.who entry.reading
+            entry.cmd clocks.old self.old result clocks.new self.new }
     {
         clocks.ready(SECOND_ENTRIES_LIMIT)?;
-        self.command(clocks, who, reading, cmd)
+        self.command(clocks, entry)
     }
 
     /// Applies a command, for whose entries there is room. A refused command changes nothing.
-    pub(super) fn command<C: Clocks>(
-        &mut self,
-        clocks: &mut C,
-        who: u32,
-        reading: u64,
-        cmd: Command,
-    ) -> Result<(), Refusal>
+    pub(super) fn command<C: Clocks>(&mut self, clocks: &mut C, entry: Entry) -> Result<(), Refusal>
         requires room { C.has_room 3 clocks.old }
-        ensures answer { IsCommandedTo C.state C.is_after C.has_room C.is_short who reading cmd
-            clocks.old self.old result clocks.new self.new }
+        ensures answer { IsCommandedTo C.state C.is_after C.has_room C.is_short entry.who
+            entry.reading entry.cmd clocks.old self.old result clocks.new self.new }
         ensures room { C.has_room 6 clocks.old → C.has_room 3 clocks.new }
     {
         let now = clocks.clock().snapshot(0);
-        give(clocks, who, reading, cmd)?;
-        self.follow(clocks, who, reading, cmd, now.desc(), now.mult());
+        give(clocks, entry)?;
+        self.follow(clocks, entry, now.desc(), now.mult());
         Ok(())
     }
 
     /// Follows an accepted command, before which the clocks ran at the multiplier `mult`.
-    fn follow<C: Clocks>(
-        &mut self,
-        clocks: &mut C,
-        who: u32,
-        reading: u64,
-        cmd: Command,
-        desc: CounterDesc,
-        mult: u32,
-    )
-        requires low { reading ≤ mask (C.state clocks.old).base.counter }
+    fn follow<C: Clocks>(&mut self, clocks: &mut C, entry: Entry, desc: CounterDesc, mult: u32)
+        requires low { entry.reading ≤ mask (C.state clocks.old).base.counter }
         requires room { C.has_room 2 clocks.old }
         ensures seen { (before : State) → before.base.counter ≡ desc → before.base.mult ≡ mult →
             seen (C.state clocks.new) self.new
-            ≡ after_command reading cmd (C.state clocks.old) (seen before self.old) }
+            ≡ after_command entry.reading entry.cmd (C.state clocks.old) (seen before self.old) }
         ensures entries { let steered = seen (C.state clocks.old) self.old in
-            C.is_after clocks.old (entries_after who reading cmd steered.clock steered) clocks.new }
+            C.is_after clocks.old
+            (entries_after entry.who entry.reading entry.cmd steered.clock steered) clocks.new }
         ensures room { (count : ℕ) → C.has_room (count + 2) clocks.old →
             C.has_room count clocks.new }
     {
-        match cmd {
+        match entry.cmd {
             Command::SetTime(_) | Command::Step(_) | Command::Leap { .. } => {
                 self.steering.clear();
-                self.restart(clocks, who, reading);
+                self.restart(clocks, entry.who, entry.reading);
             }
-            Command::Resume(_) => self.restart(clocks, who, reading),
+            Command::Resume(_) => self.restart(clocks, entry.who, entry.reading),
             _ => {
-                let cycles = desc.gap(self.mark, reading);
+                let cycles = desc.gap(self.mark, entry.reading);
                 self.steering.account(desc, mult, cycles);
-                self.mark = reading;
+                self.mark = entry.reading;
             }
         }
     }

@@ -43,7 +43,7 @@ impl Course {
             return;
         }
         let cmd = leap.command(tai_of(clocks.clock()));
-        if let Ok(()) = give(clocks, who, reading, cmd) {
+        if let Ok(()) = give(clocks, Entry { who, reading, cmd }) {
             self.next = leap.next_second(self.next);
         }
     }
@@ -69,7 +69,8 @@ pub(super) fn give_tai<C: Clocks>(
     if tai == tai_of(clocks.clock()) {
         return Ok(());
     }
-    give(clocks, who, reading, Command::Tai(i64::from(tai)))
+    let cmd = Command::Tai(i64::from(tai));
+    give(clocks, Entry { who, reading, cmd })
 }
 
 /// Gives a command that may be missing. One that the clocks refuse changes nothing.
@@ -81,27 +82,22 @@ fn give_any<C: Clocks>(clocks: &mut C, who: u32, reading: u64, cmd: Option<Comma
     ensures room { (count : ℕ) → C.has_room (count + 1) clocks.old → C.has_room count clocks.new }
 {
     if let Some(cmd) = cmd {
-        let _answer = give(clocks, who, reading, cmd);
+        let _answer = give(clocks, Entry { who, reading, cmd });
     }
 }
 
 /// Gives a command. The error is the clocks' refusal, and then nothing changes.
 #[inline(always)]
-pub(super) fn give<C: Clocks>(
-    clocks: &mut C,
-    who: u32,
-    reading: u64,
-    cmd: Command,
-) -> Result<(), Refusal>
+pub(super) fn give<C: Clocks>(clocks: &mut C, entry: Entry) -> Result<(), Refusal>
     requires room { C.has_room 1 clocks.old }
     ensures answer { MatchResult result
-        (λ _. state_refusal (C.state clocks.old) reading cmd ≡ None)
-        (λ refusal. (state_refusal (C.state clocks.old) reading cmd ≡ Some refusal)
+        (λ _. state_refusal (C.state clocks.old) entry.reading entry.cmd ≡ None)
+        (λ refusal. (state_refusal (C.state clocks.old) entry.reading entry.cmd ≡ Some refusal)
         × (clocks.new ≡ clocks.old)) }
-    ensures state { C.state clocks.new ≡ given reading cmd (C.state clocks.old) }
+    ensures state { C.state clocks.new ≡ given entry.reading entry.cmd (C.state clocks.old) }
     ensures entries { C.is_after clocks.old
-        (made_of who reading (Some cmd) (C.state clocks.old)) clocks.new }
+        (made_of entry.who entry.reading (Some entry.cmd) (C.state clocks.old)) clocks.new }
     ensures room { (count : ℕ) → C.has_room (count + 1) clocks.old → C.has_room count clocks.new }
 {
-    clocks.give(Entry { who, reading, cmd })
+    clocks.give(entry)
 }

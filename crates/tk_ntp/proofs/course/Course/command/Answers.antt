@@ -1,5 +1,4 @@
 use Rattle.std.proofs.Common.{◌≡◌, ◌∙◌, ap, sym, subst, Option, ◌∷◌, []}
-use Rattle.tk_clock.specs.declared.command.Entry.{Entry}
 use Rattle.tk_clock.specs.declared.refusal.Refusal.{Refusal}
 use Rattle.tk_clock.specs.Snapshot.{Snapshot}
 use Rattle.tk_clock.specs.State.{State, effect}
@@ -12,15 +11,15 @@ use Rattle.tk_ntp.proofs.course.Course.command.Goals as goal
 pub returns-clause-answer : goal.returns-clause-answer
 returns-clause-answer g c =
     let kept = g.C.Clocks in
-    let who = c.args.who in
-    let reading = c.args.reading in
-    let cmd = c.args.cmd in
+    let entry = c.args.entry in
+    let who = entry.who in
+    let reading = entry.reading in
+    let cmd = entry.cmd in
     let before = c.args.self.now in
     let a = c.args.clocks.now in
     let m = c.give.new.clocks in
     let b = c.follow.new.clocks in
     let clock = kept.state a in
-    let entry : Entry = record { who = who; reading = reading; cmd = cmd } in
     let none = c.in_ok-give.ensures.answer in
     let moved : kept.state m ≡ effect clock reading cmd =
     accepted reading cmd clock (kept.state m) none c.give.ensures.state in

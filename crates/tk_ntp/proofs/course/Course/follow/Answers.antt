@@ -28,7 +28,7 @@ ordinary (Resume x) a b d e = absurd (e x refl)
 
 pub returns-in_default : goal.returns-in_default
 returns-in_default g c =
-    let is = ordinary c.args.cmd c.in_default.not-SetTime c.in_default.not-Step
+    let is = ordinary c.args.entry.cmd c.in_default.not-SetTime c.in_default.not-Step
     c.in_default.not-Leap c.in_default.not-Resume in
     record {
       seen = λ before counter mult.
