@@ -103,7 +103,7 @@ int net_call_with(int (*call)(int, const struct sockaddr *, socklen_t), int file
 /* Returns the address of a node of the family of another address, or none. */
 struct address net_own_address(size_t node, struct address other);
 
-/* Stores for which port of a link's end tkrun stands at a port of ::1, for a client's socket. */
+/* Notes the server of a connection by IPv6: its node and port, by tkrun's port at ::1. */
 void net_note_relay(const struct link_options *link, uint16_t relay_port, int client,
 		    uint16_t port);
 

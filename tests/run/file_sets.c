@@ -106,7 +106,7 @@ static void set_one(void)
 	CHECK(is_same(of("copy").st_mtim, before.st_mtim));
 }
 
-/* So many times are set that some collide in the list of those. */
+/* Some of these times get the same place in the list of those that were set. */
 static void set_many(void)
 {
 	put("many", "");

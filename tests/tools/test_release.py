@@ -3,6 +3,7 @@ import contextlib
 import gzip
 import importlib.util
 import io
+import os
 import pathlib
 import re
 import shutil
@@ -202,6 +203,25 @@ class Release(Case):
         self.assertEqual([["--target=x86_64-unknown-linux-gnu", "--cpu=x86-64"],
                           ["--target=aarch64-unknown-linux-gnu", "--cpu=generic"]],
                          [list(it[0][4:-1]) for it in built.call_args_list])
+
+    def test_an_archive_is_proved_once_for_a_target_until_a_source_changes(self):
+        crate = release.rattle.crates()["tk_c"]
+        checked = self.room / "tk_c.a-target.checked"
+
+        def run(_, command, *__):
+            if command == "check":
+                checked.mkdir(exist_ok=True)
+                os.utime(checked)
+            return 0, ""
+
+        with mock.patch.object(release.rattle.Crate, "run", autospec=True, side_effect=run) as ran:
+            for backend in "llvm", "rattle":
+                crate.archive(self.room, backend, "a-target", self.room / "made.a")
+            os.utime(checked, (0, 0))
+            crate.archive(self.room, "llvm", "a-target", self.room / "made.a")
+        given = [it[0] for it in ran.call_args_list]
+        self.assertEqual(["check", "build", "build", "check", "build"], [it[1] for it in given])
+        self.assertIn(f"--crate-checked={checked}", given[2])
 
     def test_many_differences_of_a_program_are_cut(self):
         _, text = self.stand_in_for_the_program("".join(f"int f{it}(void) {{ return 71; }}\n"
