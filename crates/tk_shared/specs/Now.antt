@@ -94,6 +94,10 @@ pub record IsSeenBy {S : Type 0} (answers : S → ℕ → ℕ → Type 0) (count
   pub order : AreInOrder new.commands
   pub life : AreInLife new.commands new.log
 
+-- the notice's reader keeps its knowledge
+abbrev pub NoticesMore : Noticed → Noticed → Type 0
+NoticesMore old new = IsPrefix old.commands new.commands × IsPrefix old.log new.log
+
 -- the caller keeps its knowledge of the latch and of the notice
 abbrev pub KnowsMore : Known → Known → Type 0
 KnowsMore old new = IsPrefix old.learnt.publications new.learnt.publications

@@ -4,7 +4,7 @@ ghost use mathlib.Core.List.{IsPrefix};
 ghost use Rattle.tk_clock.specs.State.{base_of};
 ghost use Rattle.tk_keeper.specs.Keeper.{ReadsAs};
 ghost use Rattle.tk_page.specs.History.{Begins};
-ghost use Rattle.tk_shared.specs.Now.{IsNow, IsNowBy, IsNoTime, IsNoTimeBy, IsSeenBy, KnowsMore};
+ghost use Rattle.tk_shared.specs.Now.{IsNow, IsNowBy, IsNoTime, IsNoTimeBy, IsSeenBy, KnowsMore, NoticesMore};
 
 use crate::caller::Caller;
 use crate::counter::Counter;
@@ -117,8 +117,7 @@ fn time_seen<R: Wait, S: SharedCounter>(
         × (notice_reader.new.notice ≡ notice_reader.old.notice) }
     ensures reads { viewer.old.reads < viewer.new.reads }
     ensures begins { Begins viewer.old.journal viewer.new.journal }
-    ensures noticed { IsPrefix notice_reader.old.commands notice_reader.new.commands
-        × IsPrefix notice_reader.old.log notice_reader.new.log }
+    ensures noticed { NoticesMore notice_reader.old notice_reader.new }
     ensures answer { IsSeenBy S.answers counter.now clock viewer.new.journal notice_reader.old
         notice_reader.new result }
 {
@@ -151,8 +150,7 @@ fn time_by<S: SharedCounter>(
     ensures same { (reader.new.latch ≡ reader.old.latch)
         × (notice_reader.new.notice ≡ notice_reader.old.notice) }
     ensures learnt { IsPrefix reader.old.publications reader.new.publications }
-    ensures noticed { IsPrefix notice_reader.old.commands notice_reader.new.commands
-        × IsPrefix notice_reader.old.log notice_reader.new.log }
+    ensures noticed { NoticesMore notice_reader.old notice_reader.new }
     ensures answer { MatchResult result
         (λ time. IsNowBy S.answers counter.now reader.old reader.new notice_reader.old
         notice_reader.new clock time)
