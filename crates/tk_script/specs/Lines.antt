@@ -54,3 +54,8 @@ abbrev pub IsAtLine : ClockId → Timespec → List ℕ → Type 0
 IsAtLine Realtime time text = IsUtcLine Realtime time text
 IsAtLine RealtimeCoarse time text = IsUtcLine RealtimeCoarse time text
 IsAtLine clock time text = text ≡ at_text clock time ++ codes "\n"
+
+-- a text is followed by the line of a clock's time
+abbrev pub AppendsAtLine : ClockId → Timespec → List ℕ → List ℕ → Type 0
+AppendsAtLine clock time old new =
+    (text : List ℕ) × (new ≡ old ++ text) × IsAtLine clock time text

@@ -1,6 +1,6 @@
-ghost use Rattle.std.specs.Prelude.{◌≡◌, ℕ, ◌++◌, List, OnOk, OnErr, IfErr};
+ghost use Rattle.std.specs.Prelude.{◌≡◌, ◌++◌, OnOk, OnErr, IfErr};
 ghost use Rattle.tk_script.specs.Line.{HasRoom};
-ghost use Rattle.tk_script.specs.Lines.{IsWritable, IsAtLine, at_text};
+ghost use Rattle.tk_script.specs.Lines.{AppendsAtLine, IsWritable, IsAtLine, at_text};
 
 use crate::calendar::{Calendar, date_at, day_and_second, time_of_day};
 use crate::line::Line;
@@ -23,8 +23,7 @@ pub fn line_at<A: Allocator + Copy>(
     time: Timespec,
 ) -> Result<(), ScriptError>
     requires { IsWritable time }
-    ensures ok { OnOk result ((text : List ℕ) × (out.new.items ≡ out.old.items ++ text)
-        × IsAtLine clock time text) }
+    ensures ok { OnOk result (AppendsAtLine clock time out.old.items out.new.items) }
     ensures err { OnErr result (out.new.items ≡ out.old.items) }
     ensures memory { IfErr result (λ e. e ≡ ScriptError.Memory) }
 {
@@ -49,8 +48,7 @@ impl<A: Allocator + Copy> Calendar<A> {
         time: Timespec,
     ) -> Result<(), ScriptError>
         requires { IsWritable time }
-        ensures ok { OnOk result ((text : List ℕ) × (out.new.items ≡ out.old.items ++ text)
-            × IsAtLine clock time text) }
+        ensures ok { OnOk result (AppendsAtLine clock time out.old.items out.new.items) }
         ensures err { OnErr result (out.new.items ≡ out.old.items) }
         ensures memory { IfErr result (λ e. e ≡ ScriptError.Memory) }
     {
