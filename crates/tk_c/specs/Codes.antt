@@ -5,7 +5,7 @@ use Rattle.tk_counter.specs.declared.desc_error.DescError.TheVariants as faults
 use Rattle.tk_clock.specs.declared.refusal.Refusal.{Refusal}
 use Rattle.tk_clock.specs.declared.refusal.Refusal.TheVariants as refusals
 use Rattle.tk_clock.specs.declared.refusal.ReadError.{ReadError}
-use Rattle.tk_clock.specs.declared.refusal.ReadError.TheVariants as reads
+use Rattle.tk_clock.specs.Refusal.{refusal_of}
 use Rattle.tk_c.specs.declared.code.Code.{Code}
 use Rattle.tk_c.specs.declared.code.Code.TheVariants.{Done, Full, Asleep, Awake, Invalid, Behind, Range, Memory, Further, Never, BadCommand, BadClock, BadWords, BadRoom, BadBits, BadShift, BadMult, BadAdjust, BadRate}
 
@@ -41,10 +41,9 @@ code_of_refusal refusals.Behind = Behind
 code_of_refusal refusals.Range = Range
 code_of_refusal refusals.Memory = Memory
 
--- the code of a refused read
+-- the code of a refused read: that of a command that is refused for the same reason
 abbrev pub code_of_read : ReadError → Code
-code_of_read reads.Invalid = Invalid
-code_of_read reads.Range = Range
+code_of_read error = code_of_refusal (refusal_of error)
 
 -- the code of a fault of a counter's description
 abbrev pub code_of_fault : DescError → Code

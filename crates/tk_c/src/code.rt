@@ -85,13 +85,10 @@ impl From<Refusal> for Code {
 }
 
 impl From<ReadError> for Code {
-    ghost from_gives = { λ refusal code. code ≡ code_of_read refusal };
+    ghost from_gives = { λ error code. code ≡ code_of_read error };
 
-    fn from(refusal: ReadError) -> Code {
-        match refusal {
-            ReadError::Invalid => Code::Invalid,
-            ReadError::Range => Code::Range,
-        }
+    fn from(error: ReadError) -> Code {
+        Code::from(Refusal::from(error))
     }
 }
 
