@@ -1,5 +1,6 @@
 -- The state of a discipline (kernel/time/ntp.c).
 use Rattle.std.specs.Prelude.{ℕ, ◌+◌, ◌/◌, ◌^◌, ◌<◌, ◌≤◌, ℤ, pos, ◌+ℤ◌, ◌*ℤ◌, unsigned_abs, bit_or, None}
+use Rattle.tk_ntp.specs.declared.discipline.Discipline.TheInside.{Inside}
 use Rattle.tk_ntp.specs.Bits.{sta_unsync}
 use Rattle.tk_ntp.specs.Request.{error_limit, greatest_constant}
 use Rattle.tk_ntp.specs.Leap.{LeapPlan, no_plan}
@@ -29,6 +30,23 @@ pub record Ntp : Type 0 where
   pub adjust : ℤ
   -- what each of hz parts of the present second gets beyond its base, a length
   pub phase : ℤ
+
+-- the state that the fields of a discipline contain
+abbrev pub ntp_of : Inside → Ntp
+ntp_of a = record {
+  hz = a.hz;
+  status = a.status;
+  plan = a.plan;
+  offset = a.offset;
+  constant = a.constant;
+  maxerror = a.maxerror;
+  esterror = a.esterror;
+  tick = a.tick;
+  frequency = a.frequency;
+  reftime = a.reftime;
+  adjust = a.adjust;
+  phase = a.phase;
+}
 
 -- the ranges of a discipline's numbers
 pub record IsNtp (ntp : Ntp) : Type 0 where

@@ -1,6 +1,7 @@
 -- A signal of a pulse per second: what its pulses left (pps_.. in kernel/time/ntp.c, with
 -- CONFIG_NTP_PPS).
 use Rattle.std.specs.Prelude.{◌≡◌, ℕ, zero, suc, ◌-◌, ◌^◌, ◌<◌, ◌≤◌, Bool, false, not, ◌&&◌, ◌||◌, nat_eq, ℤ, pos, unsigned_abs, bit_and, if◌then◌else◌}
+use Rattle.tk_ntp.specs.declared.pps.Pps.TheInside.{Inside}
 use Rattle.tk_ntp.specs.declared.timex.Timex.{Timex}
 use Rattle.tk_ntp.specs.Bits.{has, without, sta_pll, sta_ppssignal, adj_frequency, adj_status, adj_setoffset, adj_adjtime}
 use Rattle.tk_ntp.specs.Length.{max_frequency}
@@ -29,6 +30,23 @@ pub record Pps : Type 0 where
   pub jitcnt : ℕ
   pub stbcnt : ℕ
   pub errcnt : ℕ
+
+-- the state that the fields of a signal contain
+abbrev pub pps_of : Inside → Pps
+pps_of a = record {
+  valid = a.valid;
+  correction = a.correction;
+  jitter = a.jitter;
+  start = a.start;
+  shift = a.shift;
+  balance = a.balance;
+  frequency = a.frequency;
+  stabil = a.stabil;
+  calcnt = a.calcnt;
+  jitcnt = a.jitcnt;
+  stbcnt = a.stbcnt;
+  errcnt = a.errcnt;
+}
 
 -- the least and the greatest shift (PPS_INTMIN, PPS_INTMAX)
 abbrev pub least_shift : ℕ

@@ -58,39 +58,13 @@ pub struct Discipline {
 const _: () = prove!(size_of::<Discipline>() <= 128);
 
 impl Model for Discipline {
-    ghost use Rattle.tk_ntp.specs.Ntp.{Ntp, IsNtp};
+    ghost use Rattle.tk_ntp.specs.Ntp.{Ntp, IsNtp, ntp_of};
 
     ghost Value = { Ntp };
 
-    ghost view = { λ a. record {
-      hz = a.hz;
-      status = a.status;
-      plan = a.plan;
-      offset = a.offset;
-      constant = a.constant;
-      maxerror = a.maxerror;
-      esterror = a.esterror;
-      tick = a.tick;
-      frequency = a.frequency;
-      reftime = a.reftime;
-      adjust = a.adjust;
-      phase = a.phase;
-    } };
+    ghost view = { ntp_of };
 
-    ghost invariant = { λ a. IsNtp (record {
-      hz = a.hz;
-      status = a.status;
-      plan = a.plan;
-      offset = a.offset;
-      constant = a.constant;
-      maxerror = a.maxerror;
-      esterror = a.esterror;
-      tick = a.tick;
-      frequency = a.frequency;
-      reftime = a.reftime;
-      adjust = a.adjust;
-      phase = a.phase;
-    }) };
+    ghost invariant = { λ a. IsNtp (ntp_of a) };
 
     ghost inverse = { λ n. record {
       hz = n.hz;

@@ -59,39 +59,13 @@ pub struct Pps {
 const _: () = prove!(size_of::<Pps>() <= 80);
 
 impl Model for Pps {
-    ghost use Rattle.tk_ntp.specs.Pps.{Pps, IsPps};
+    ghost use Rattle.tk_ntp.specs.Pps.{Pps, IsPps, pps_of};
 
     ghost Value = { Pps };
 
-    ghost view = { λ a. record {
-      valid = a.valid;
-      correction = a.correction;
-      jitter = a.jitter;
-      start = a.start;
-      shift = a.shift;
-      balance = a.balance;
-      frequency = a.frequency;
-      stabil = a.stabil;
-      calcnt = a.calcnt;
-      jitcnt = a.jitcnt;
-      stbcnt = a.stbcnt;
-      errcnt = a.errcnt;
-    } };
+    ghost view = { pps_of };
 
-    ghost invariant = { λ a. IsPps (record {
-      valid = a.valid;
-      correction = a.correction;
-      jitter = a.jitter;
-      start = a.start;
-      shift = a.shift;
-      balance = a.balance;
-      frequency = a.frequency;
-      stabil = a.stabil;
-      calcnt = a.calcnt;
-      jitcnt = a.jitcnt;
-      stbcnt = a.stbcnt;
-      errcnt = a.errcnt;
-    }) };
+    ghost invariant = { λ a. IsPps (pps_of a) };
 
     ghost inverse = { λ p. record {
       valid = p.valid;
