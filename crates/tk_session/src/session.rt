@@ -76,15 +76,15 @@ impl Session {
     /// - `NotPlain`: the record is not a plain line
     /// - `Script`: the fault `Opening`, `Fields` or `Number` of the record; an empty record is not
     ///   a valid opening
-    pub fn open(record: &[u8]) -> Result<(Session, Text), Fault>
+    pub fn open(line: &[u8]) -> Result<(Session, Text), Fault>
         ensures { MatchResult result
-            (λ opened. spec.IsOpenedBy record.now opened.1 opened.0)
-            (λ fault. spec.IsNoOpening record.now fault) }
+            (λ opened. spec.IsOpenedBy line.now opened.1 opened.0)
+            (λ fault. spec.IsNoOpening line.now fault) }
     {
-        if !is_first(record) {
+        if !is_first(line) {
             return Err(Fault::NotPlain);
         }
-        match start_in(record) {
+        match start_in(line) {
             Ok(start) => {
                 let session = Session::begin(start);
                 let text = Text::of(&Line::open(&session.snapshot().desc()));
@@ -169,23 +169,23 @@ impl Session {
     /// - `NotPlain`: the record is not a plain line
     /// - `TooMany`: no more records can be counted
     /// - `Script`: the fault `Word`, `Fields`, `Number` or `Counter` of the record
-    pub fn record(&mut self, record: &[u8]) -> Result<Text, Fault>
+    pub fn record(&mut self, line: &[u8]) -> Result<Text, Fault>
         ensures { MatchResult result
-            (λ text. spec.Takes self.old record.now text self.new)
-            (λ fault. spec.IsRefused (self.old.records + 1) record.now fault
+            (λ text. spec.Takes self.old line.now text self.new)
+            (λ fault. spec.IsRefused (self.old.records + 1) line.now fault
             × (self.new ≡ self.old)) }
     {
-        if !is_line(record) {
+        if !is_line(line) {
             return Err(Fault::NotPlain);
         }
-        if record.is_empty() {
+        if line.is_empty() {
             return Ok(Text::new());
         }
         if self.records == u64::MAX {
             return Err(Fault::TooMany);
         }
         let number = self.records + 1;
-        match row_in(number, record) {
+        match row_in(number, line) {
             Ok(row) => Ok(self.carry_out(number, row)),
             Err(error) => Err(Fault::Script(error)),
         }

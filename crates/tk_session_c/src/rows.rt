@@ -18,13 +18,13 @@ use tk_script::{is_line, row_in};
 /// - the code of the record's fault: `BadWord`, `BadFields`, `BadNumber`, or `BadBits` to
 ///   `BadAdjust`.
 #[unsafe(no_mangle)]
-pub extern "C" fn tkc_row_parse(row: &mut RowStorage, number: u64, record: &[u8]) -> u32
-    ensures { IsParsed number record.now row.old row.new result }
+pub extern "C" fn tkc_row_parse(row: &mut RowStorage, number: u64, line: &[u8]) -> u32
+    ensures { IsParsed number line.now row.old row.new result }
 {
-    if !is_line(record) {
+    if !is_line(line) {
         return Code::NotPlain.number();
     }
-    match row_in(number, record) {
+    match row_in(number, line) {
         Ok(parsed) => {
             *row = RowStorage::of(&parsed);
             Code::Done.number()

@@ -41,12 +41,12 @@ pub extern "C" fn tkc_session_begin() -> Session
 pub extern "C" fn tkc_session_record(
     session: &mut Session,
     text: &mut TextStorage,
-    record: &[u8],
+    line: &[u8],
 ) -> u32
-    ensures answer { IsRecorded session.old record.now text.old text.new result session.new }
+    ensures answer { IsRecorded session.old line.now text.old text.new result session.new }
     ensures short { text.new.len ≤ 288 }
 {
-    match take(session, record) {
+    match take(session, line) {
         Ok(lines) => {
             text.write(lines.as_bytes());
             Code::Done.number()
@@ -59,24 +59,24 @@ pub extern "C" fn tkc_session_record(
 }
 
 /// Takes a record. The first one opens the clocks.
-fn take(session: &mut Session, record: &[u8]) -> Result<Text, Fault>
+fn take(session: &mut Session, line: &[u8]) -> Result<Text, Fault>
     ensures { MatchResult result
-        (λ lines. IsTaken session.old record.now lines session.new)
-        (λ fault. IsNotTaken session.old record.now fault × (session.new ≡ session.old)) }
+        (λ lines. IsTaken session.old line.now lines session.new)
+        (λ fault. IsNotTaken session.old line.now fault × (session.new ≡ session.old)) }
 {
-    if session.records() == 0 && !record.is_empty() {
-        return open(session, record);
+    if session.records() == 0 && !line.is_empty() {
+        return open(session, line);
     }
-    session.record(record)
+    session.record(line)
 }
 
 /// Opens the clocks with the first record, and replaces the session.
-fn open(session: &mut Session, record: &[u8]) -> Result<Text, Fault>
+fn open(session: &mut Session, line: &[u8]) -> Result<Text, Fault>
     ensures { MatchResult result
-        (λ lines. spec.IsOpenedBy record.now lines session.new)
-        (λ fault. spec.IsNoOpening record.now fault × (session.new ≡ session.old)) }
+        (λ lines. spec.IsOpenedBy line.now lines session.new)
+        (λ fault. spec.IsNoOpening line.now fault × (session.new ≡ session.old)) }
 {
-    let (opened, lines) = Session::open(record)?;
+    let (opened, lines) = Session::open(line)?;
     *session = opened;
     Ok(lines)
 }

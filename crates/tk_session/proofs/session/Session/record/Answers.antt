@@ -8,17 +8,17 @@ use Rattle.tk_session.proofs.session.Session.record.Goals as goal
 
 pub returns-then-not-is_line : goal.returns-then-not-is_line
 returns-then-not-is_line c =
-    (refused-plain _ c.args.record.now (sym c.is_line.ensures ∙ c.if-not-is_line.true), refl)
+    (refused-plain _ c.args.line.now (sym c.is_line.ensures ∙ c.if-not-is_line.true), refl)
 
 pub returns-then-is_empty : goal.returns-then-is_empty
 returns-then-is_empty c =
-    let none : length c.args.record.now ≡ 0 =
+    let none : length c.args.line.now ≡ 0 =
     grind (arith, common_steps, c.is_empty.ensures, c.if-is_empty.true) in
-    takes-none c.args.self.now c.args.record.now c.new.result none c.new.ensures
+    takes-none c.args.self.now c.args.line.now c.new.result none c.new.ensures
 
 pub returns-in-Ok : goal.returns-in-Ok
 returns-in-Ok c =
-    let line = c.args.record.now in
+    let line = c.args.line.now in
     let some : length line ≡ 0 → ⊥ = λ none.
     grind (arith, common_steps, c.is_empty.ensures, c.if-is_empty.false, none) in
     let known = subst (λ (n : ℕ). row_of (n + 1) (cut_at_commas line) ≡ Ok c.in-Ok.row)
@@ -28,7 +28,7 @@ returns-in-Ok c =
 
 pub returns-in-Err : goal.returns-in-Err
 returns-in-Err c =
-    let line = c.args.record.now in
+    let line = c.args.line.now in
     let some : length line ≡ 0 → ⊥ = λ none.
     grind (arith, common_steps, c.is_empty.ensures, c.if-is_empty.false, none) in
     let view = ap (λ (s : Session). s.records) c.self.view_is in
