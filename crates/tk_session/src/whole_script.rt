@@ -2,8 +2,8 @@
 ghost use Rattle.tk_session.specs.Whole.{FaultIsTheScripts, LinesAreTheReport, OpeningFaultIsTheScripts};
 
 /// Proves that the lines of a session, one after the other, are the report of the script whose text
-/// consists of its records, each with a line feed, but for the last one perhaps. The first record
-/// is not an empty line. If a record is refused by a fault, the script has this fault, and no
+/// consists of its records. Each record ends with a line feed, which the last one may lack. The first
+/// record is not an empty line. If a record is refused by a fault, the script has this fault, and no
 /// report: a later record, or the first one.
 ///
 /// The script has at most 16,777,216 bytes.
