@@ -39,6 +39,11 @@ void get_words_each(struct list *list)
 	get_each(list);
 }
 
+void get_line_each(struct list *list)
+{
+	get_each(list);
+}
+
 void update_each(struct list *list)
 {
 	struct plain_clock running = clock;

@@ -124,6 +124,7 @@ int main(int argc, char **argv)
 		{ "c_get_20s", "ns/read", get_each, NEAR, (uint64_t)HZ * 20, 40 },
 		{ "c_get_12h", "ns/read", get_each, NEAR, HOURS, 40 },
 		{ "c_get_words_1s", "ns/read", get_words_each, NEAR, HZ, 40 },
+		{ "c_line_1s", "ns/read", get_line_each, NEAR, HZ, 40 },
 		{ "c_apply_1us", "ns/command", update_each, NEAR, HZ, 40 },
 		{ "c_convert_4096", "ns/stamp", convert_all, NEAR, (uint64_t)HZ * 20, 40 },
 		{ "c_convert_4096_untested", "ns/stamp", convert_untested, NEAR,

@@ -19,9 +19,11 @@ struct list {
 /* Opens clocks over a counter of 64 bits at HZ cycles per second. */
 void open_clocks(void);
 
-/* MONOTONIC at each reading: seconds ^ nanoseconds. The second job reads ten words each time. */
+/* MONOTONIC at each reading: seconds ^ nanoseconds. The second job reads ten words each time, the
+ * third one keeps the clock's line. */
 void get_each(struct list *list);
 void get_words_each(struct list *list);
+void get_line_each(struct list *list);
 /* One update per item, a microsecond apart; then words of the clocks. */
 void update_each(struct list *list);
 /* MONOTONIC in ns: with a test of each stamp, and without a test (in the hand-written program); and

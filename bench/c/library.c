@@ -9,6 +9,7 @@ const int copies = 0;
 static struct tkc_clock clock;
 static struct tkc_snapshot snapshot;
 static struct tkc_counter counter;
+static struct tkc_line line;
 static uint64_t words[TKC_WORDS];
 
 static void need(uint32_t code)
@@ -22,6 +23,7 @@ void open_clocks(void)
 	need(tkc_counter_new(&counter, 64, MULT, SHIFT));
 	need(tkc_clock_open(&clock, &counter, OPENED_AT, REAL, 0));
 	tkc_clock_snapshot(&snapshot, &clock);
+	need(tkc_snapshot_line(&line, &snapshot, TKC_CLOCK_MONOTONIC));
 	tkc_snapshot_words(words, &snapshot);
 }
 
@@ -44,6 +46,17 @@ void get_words_each(struct list *list)
 	for (size_t i = 0; i < list->count; i++) {
 		need(tkc_snapshot_from_words(&taken, &counter, words));
 		need(tkc_snapshot_get(&time, &taken, TKC_CLOCK_MONOTONIC, list->stamps[i]));
+		list->out[i] = (uint64_t)time.sec ^ time.nsec;
+	}
+}
+
+void get_line_each(struct list *list)
+{
+	struct tkc_time time;
+
+	for (size_t i = 0; i < list->count; i++) {
+		if (!tkc_line_get(&time, &line, list->stamps[i]))
+			fail("a reading is beyond the line");
 		list->out[i] = (uint64_t)time.sec ^ time.nsec;
 	}
 }

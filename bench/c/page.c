@@ -4,9 +4,13 @@
  *
  *     page time library|vdso JOB..
  *
- * Prints for each job the ns of a read, of the fastest of some rounds. Before each round a writer
- * publishes, as often as the kernel's clock is updated.
+ * Prints for each job the ns of a read, of the fastest of some rounds. Before each round this thread
+ * publishes, as often as the kernel's clock is updated. In a job "_writer", another thread publishes
+ * each millisecond instead, and in a job "_4" three more threads read, each with its own reader.
  */
+#define _POSIX_C_SOURCE 200809L
+#include <pthread.h>
+#include <stdatomic.h>
 #include <stdio.h>
 #include <stdlib.h>
 #include <string.h>
@@ -14,12 +18,14 @@
 #include <tkcore_page.h>
 #include <x86intrin.h>
 
-enum { ROUNDS = 100, READS = 50000 };
+enum { ROUNDS = 100, READS = 50000, OTHERS = 3 };
 
 static struct tkc_page page;
-static struct tkc_page_reader reader;
 static struct tkc_clock clocks;
-static uint64_t sum; /* of what is read, so that it is read */
+static _Thread_local struct tkc_page_reader reader;
+static _Thread_local uint64_t sum; /* of what is read, so that it is read */
+static _Atomic uint64_t total;
+static atomic_int has_ended;
 
 static uint64_t read_counter(void *context)
 {
@@ -91,23 +97,88 @@ static void read_vdso(void)
 static const struct job {
 	const char *name;
 	void (*read)(void);
+	int others;
+	int has_writer;
 } jobs[] = {
-	{ "c_page_now", read_now },
-	{ "c_page_line", read_line },
-	{ "c_page_line_ns", read_line_ns },
+	{ "c_page_now", read_now, 0, 0 },
+	{ "c_page_line", read_line, 0, 0 },
+	{ "c_page_line_4", read_line, OTHERS, 0 },
+	{ "c_page_line_writer", read_line, 0, 1 },
+	{ "c_page_line_4_writer", read_line, OTHERS, 1 },
+	{ "c_page_line_ns", read_line_ns, 0, 0 },
 };
 
-/* Returns the ns of a read. */
-static double round_of(void (*read)(void))
+static void publish(void)
 {
-	double start;
-
 	tkc_page_begin(&page);
 	need(tkc_clock_update(&clocks, read_counter(NULL)));
 	tkc_page_publish_clock(&page, &clocks);
-	start = nanos();
-	read();
-	return (nanos() - start) / READS;
+}
+
+/* Publishes each millisecond, until the job ends. */
+static void *write_each_millisecond(void *unused)
+{
+	const struct timespec pause = { .tv_nsec = 1000000 };
+
+	(void)unused;
+	while (!atomic_load(&has_ended)) {
+		publish();
+		nanosleep(&pause, NULL);
+	}
+	return NULL;
+}
+
+/* Reads as the job does, until it ends. */
+static void *read_beside(void *job)
+{
+	need(tkc_page_reader_init(&reader, &page, TKC_CLOCK_MONOTONIC));
+	while (!atomic_load(&has_ended))
+		((const struct job *)job)->read();
+	atomic_fetch_add(&total, sum);
+	return NULL;
+}
+
+static void start(pthread_t *thread, void *(*run)(void *), const struct job *job)
+{
+	if (!pthread_create(thread, NULL, run, (void *)job))
+		return;
+	fputs("page: a thread can't start\n", stderr);
+	exit(EXIT_FAILURE);
+}
+
+/* Returns the ns of a read. */
+static double round_of(const struct job *job)
+{
+	double begun;
+
+	if (!job->has_writer)
+		publish();
+	begun = nanos();
+	job->read();
+	return (nanos() - begun) / READS;
+}
+
+/* Returns the ns of a read in the fastest round of a job. */
+static double least_of(const struct job *job)
+{
+	pthread_t threads[OTHERS + 1];
+	int count = 0;
+	double least = 1e9;
+
+	atomic_store(&has_ended, 0);
+	if (job->has_writer)
+		start(&threads[count++], write_each_millisecond, job);
+	for (int i = 0; i < job->others; i++)
+		start(&threads[count++], read_beside, job);
+	for (int round = 0; round < ROUNDS; round++) {
+		double next = round_of(job);
+
+		least = next < least ? next : least;
+	}
+	atomic_store(&has_ended, 1);
+	for (int i = 0; i < count; i++)
+		pthread_join(threads[i], NULL);
+	return least;
 }
 
 static void open_all(void)
@@ -127,15 +198,13 @@ int main(int argc, char **argv)
 	open_all();
 	for (int i = 3; i < argc; i++)
 		for (size_t k = 0; k < sizeof(jobs) / sizeof(jobs[0]); k++) {
-			double least = 1e9, next;
+			struct job job = jobs[k];
 
-			if (strcmp(argv[i], jobs[k].name))
+			if (strcmp(argv[i], job.name))
 				continue;
-			for (int round = 0; round < ROUNDS; round++) {
-				next = round_of(is_vdso ? read_vdso : jobs[k].read);
-				least = next < least ? next : least;
-			}
-			printf("%s\t%.2f\tns/read\t-\n", jobs[k].name, least);
+			if (is_vdso)
+				job.read = read_vdso;
+			printf("%s\t%.2f\tns/read\t-\n", job.name, least_of(&job));
 		}
-	return sum == 1;
+	return total + sum == 1;
 }
