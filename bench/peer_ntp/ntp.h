@@ -73,7 +73,7 @@ struct steered {
 	struct ntp ntp;
 	int64_t freq, tick; /* in force */
 	__int128 lag;	    /* in 2^-shift ns by lengths */
-	uint64_t mark;	    /* the reading that the lag was computed at */
+	uint64_t last_account; /* the reading that the lag was computed at */
 	int64_t next;	    /* the second of REALTIME that begins next */
 };
 

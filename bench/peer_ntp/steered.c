@@ -56,18 +56,18 @@ static uint64_t reading_of(const struct plain_clock *clock, __int128 missing)
 	return (clock->last + cycles) & clock->mask;
 }
 
-/* Adds to the lag what the cycles since the mark should have added, minus what they did. */
+/* Adds to the lag what the cycles since the last account should have added, minus what they did. */
 static void account(struct steered *steered, uint64_t reading)
 {
 	const struct plain_clock *clock = &steered->clock;
-	uint64_t cycles = (reading - steered->mark) & clock->mask;
+	uint64_t cycles = (reading - steered->last_account) & clock->mask;
 	__int128 due = (__int128)clock->raw_mult * ntp_second(&steered->ntp);
 	__int128 done = (__int128)clock->mult * (NANOS * ONE);
 	__int128 most = (__int128)(NANOS << clock->shift) * (NANOS * ONE / 2);
 	__int128 lag = steered->lag + (due - done) * (__int128)cycles;
 
 	steered->lag = lag > most ? most : lag < -most ? -most : lag;
-	steered->mark = reading;
+	steered->last_account = reading;
 }
 
 /* Sets the rate that the present second needs, unless the multiplier is the same. */
@@ -101,12 +101,12 @@ static bool is_refused(const struct steered *steered, uint64_t reading)
 	uint64_t half = clock->mask >> 1;
 
 	return reading > clock->mask || ((reading - clock->last) & clock->mask) > half ||
-	       ((reading - steered->mark) & clock->mask) > half;
+	       ((reading - steered->last_account) & clock->mask) > half;
 }
 
 void steered_open(struct steered *steered, const struct plain_clock *clock, int64_t hz)
 {
-	*steered = (struct steered){ .clock = *clock, .tick = 10000, .mark = clock->last };
+	*steered = (struct steered){ .clock = *clock, .tick = 10000, .last_account = clock->last };
 	ntp_open(&steered->ntp, hz);
 	steered->next = (int64_t)(realtime(clock, clock->last) / (uint64_t)NANOS) + 1;
 }
@@ -160,7 +160,7 @@ static void step(struct steered *steered, uint64_t reading, int64_t nanos)
 	clock->real_offset += (uint64_t)nanos;
 	ntp_clear(&steered->ntp);
 	steered->lag = 0;
-	steered->mark = reading;
+	steered->last_account = reading;
 	steered->next = (int64_t)(realtime(clock, reading) / (uint64_t)NANOS) + 1;
 	steer(steered, reading);
 }

@@ -7,7 +7,7 @@
  */
 import { BYTES } from './library.js';
 
-/** Places in the words of tkc_ntp_save: the coming second, and the mark. */
+/** Places in the words of tkc_ntp_save: the coming second, and the last account. */
 const NEXT = 31, MARK = 32;
 const FRONT_END = 1n << 63n;
 
@@ -79,7 +79,7 @@ export class Clocks {
         const number = () => this.library.frontOf(this.snapshot);
         while (number() < front) {
             const at = this.due(reading);
-            // only the mark of an `openwords` can be after the beginning of the next second
+            // only the last account of an `openwords` can be after the beginning of the next second
             if (at === null || this.advance(at) && this.advance(this.word(MARK)))
                 return;
             this.calls.tkc_ntp_snapshot(this.begun, this.ntp);

@@ -223,7 +223,7 @@ class Records:
         for place in range(1, self.random.choice([30, 300])):
             if place * second >= 2**counter.bits // 2:
                 break
-            reading = (steered.mark + place * second) % 2**counter.bits
+            reading = (steered.last_account + place * second) % 2**counter.bits
             raw += 10**9 + gained + self.random.randrange(-noise, noise + 1)
             records.append(f"pps,{reading},{self.random.randrange(noise)},{raw}")
             if self.random.randrange(20) == 0:
@@ -283,7 +283,8 @@ class Records:
         counter = clock.counter
         second = -(-(10**9 << counter.shift) // counter.mult)
         if pick == 0:
-            last = (self.random.choice([clock.last, self.session.steered.mark]) - self.random.randrange(1, 99)) % 2**64
+            later = self.random.choice([clock.last, self.session.steered.last_account])
+            last = (later - self.random.randrange(1, 99)) % 2**64
             return last if counter.bits == 64 else self.random.choice([2**counter.bits, 2**64 - 1, last])
         if pick < 4:
             following = self.session.steered.next_second()
@@ -295,7 +296,7 @@ class Records:
         cycles = 300 * second if self.random.randrange(500) == 0 else self.random.randrange(most + 2)
         if self.random.randrange(20_000) == 0:          # a day that no call saw
             cycles = 86_400 * second
-        start = self.random.choice([clock.last] + 7 * [self.session.steered.mark])
+        start = self.random.choice([clock.last] + 7 * [self.session.steered.last_account])
         most = 2**counter.bits // 2 - 1 - counter.gap(clock.last, start)
         return (start + max(0, min(cycles, most))) % 2**counter.bits
 

@@ -136,7 +136,7 @@ def are_in_range(hz, _status, state, is_due, due, offset, constant, maxerror, es
 
 
 class Steered:
-    """Clocks and a discipline. `mark` is the reading that the lag was computed at, `next` the second of
+    """Clocks and a discipline. `last_account` is the reading that the lag was computed at, `next` the second of
     REALTIME that begins next, `front` the number of commands that the clocks have accepted, those of the discipline
     included. `signal` is a signal of a pulse per second (pps.py), if there is one."""
 
@@ -144,14 +144,14 @@ class Steered:
         units = uptime << counter.shift
         self.clock = Clock(counter, reading, real - uptime, amount=units, raw_amount=units)
         self.ntp, self.front, self.signal = Discipline(hz), 0, None
-        self.lag, self.mark, self.next = 0, reading, real // NANOS + 1
+        self.lag, self.last_account, self.next = 0, reading, real // NANOS + 1
 
     def numbers(self):
-        """What the discipline, the lag, the next second and the mark are kept in."""
+        """What the discipline, the lag, the next second and the last account are kept in."""
         ntp = self.ntp
         return [ntp.hz, ntp.status, STATES.index(ntp.state), int(ntp.due is not None), ntp.due or 0, ntp.offset,
                 ntp.constant, ntp.maxerror, ntp.esterror, ntp.tick, ntp.frequency, ntp.reftime, ntp.adjust,
-                ntp.length - ntp.base, *divmod(self.lag - LEAST_LAG, 2**64), self.next, self.mark]
+                ntp.length - ntp.base, *divmod(self.lag - LEAST_LAG, 2**64), self.next, self.last_account]
 
     def saved(self):
         """The 33 words of the clocks with their counter; numbers with a sign are in two's complement."""
@@ -167,7 +167,7 @@ class Steered:
         return by, due if by else 0
 
     def restore(self, hz, status, state, is_due, due, offset, constant, maxerror, esterror, tick, frequency, reftime,
-                adjust, phase, high, low, following, mark):
+                adjust, phase, high, low, following, last_account):
         """Continues from such numbers."""
         self.ntp = Discipline(hz)
         vars(self.ntp).update(status=status, state=STATES[state], due=due if is_due else None, offset=offset,
@@ -175,7 +175,7 @@ class Steered:
                               reftime=reftime, adjust=adjust)
         self.ntp.update_frequency()
         self.ntp.length = self.ntp.base + phase
-        self.lag, self.next, self.mark = high * 2**64 + low + LEAST_LAG, following, mark
+        self.lag, self.next, self.last_account = high * 2**64 + low + LEAST_LAG, following, last_account
 
     def command(self, reading, word, *fields):
         refusal = self.clock.refusal(reading, word, fields)
@@ -187,12 +187,12 @@ class Steered:
         self.front += 1
 
     def account(self, reading):
-        """What the cycles since the mark should have added, minus what they did, is the lag's growth."""
+        """What the cycles since the last account should have added, minus what they did, is the lag's growth."""
         counter = self.clock.counter
         short = counter.mult * self.ntp.second_length() - self.clock.mult() * NOMINAL
         most = (NANOS << counter.shift) * (NOMINAL // 2)
-        self.lag = clamp(self.lag + counter.gap(self.mark, reading) * short, -most, most)
-        self.mark = reading
+        self.lag = clamp(self.lag + counter.gap(self.last_account, reading) * short, -most, most)
+        self.last_account = reading
 
     def steer(self, reading):
         """Sets the rate that the present second needs, unless the multiplier is the same."""
@@ -248,7 +248,7 @@ class Steered:
         """Lets each second up to a reading begin late: its commands are at that reading."""
         self.test(reading)
         while (at := self.due(reading)) is not None:
-            self.account(self.mark if self.clock.counter.is_behind(self.mark, at) else at)
+            self.account(self.last_account if self.clock.counter.is_behind(self.last_account, at) else at)
             leap = self.overflow()
             self.account(reading)
             if leap:
@@ -257,7 +257,7 @@ class Steered:
 
     def test(self, reading):
         refusal = self.clock.refusal(reading, "update", ())
-        if refusal is None and self.clock.counter.is_behind(self.mark, reading):
+        if refusal is None and self.clock.counter.is_behind(self.last_account, reading):
             refusal = "behind"
         if refusal:
             raise Refused(refusal)
@@ -278,7 +278,7 @@ class Steered:
             if self.signal:
                 self.signal.clear()
         if word in (*SETTING, "resume"):
-            self.mark, self.next = reading, self.clock.value("realtime", reading) // NANOS + 1
+            self.last_account, self.next = reading, self.clock.value("realtime", reading) // NANOS + 1
             self.steer(reading)
 
     def adjtimex(self, reading, t):
@@ -336,7 +336,7 @@ class Steered:
             self.account(reading)
         most = (NANOS << old.shift) * (NOMINAL // 2)
         self.lag = clamp(self.lag, -most, most) << counter.shift >> old.shift
-        self.clock, self.mark = after, first
+        self.clock, self.last_account = after, first
         self.front += 1
 
     def next_second(self):

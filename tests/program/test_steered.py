@@ -22,7 +22,7 @@ def continued(mono, real_offset, **given):
     their discipline that aren't given are those of an opening at an hz of 250."""
     usual = {"hz": 250, "status": 64, "state": 0, "is_due": 0, "due": 0, "offset": 0, "constant": 2,
              "maxerror": 16_000_000, "esterror": 16_000_000, "tick": 10_000, "frequency": 0, "reftime": 0, "adjust": 0,
-             "phase": 0, "high": NO_LAG, "low": 0, "next": (mono + real_offset) // 10**9 + 1, "mark": 7}
+             "phase": 0, "high": NO_LAG, "low": 0, "next": (mono + real_offset) // 10**9 + 1, "last_account": 7}
     sec, frac = divmod(mono, 10**9)
     words = [0, 7, 2**24, frac * 2**24, sec, real_offset, 0, 0, frac * 2**24, sec]
     numbers = [64, 2**24, 24, *words, 0, 10_000, *{**usual, **given}.values()]
@@ -97,18 +97,18 @@ adj,error,1700000005.000000000,0,0,16000000,16000000,8257,6,10000,0,1
     def test_a_continued_mark_is_any_number(self):
         self.assert_documented("32 the reading up to which words 29 and 30 account for the cycles: any number")
         self.assertIn("Word 32 is taken modulo 2^bits.", " ".join(PAGE.read_text(encoding="utf-8").split()))
-        for mark in (0, 6, 7, 2**63, 2**64 - 1):
-            self.check_report(continued(0, 10**9, mark=mark), "open,64,16777216,24\n")
+        for last_account in (0, 6, 7, 2**63, 2**64 - 1):
+            self.check_report(continued(0, 10**9, last_account=last_account), "open,64,16777216,24\n")
         # 32 bits: the marks 9 and 2^32 + 9 are the same reading
-        for mark in (9, 2**32 + 9):
-            opening = continued(0, 10**9, mark=mark).replace("openwords,64,", "openwords,32,")
+        for last_account in (9, 2**32 + 9):
+            opening = continued(0, 10**9, last_account=last_account).replace("openwords,64,", "openwords,32,")
             self.check_report(opening + "update,8\nupdate,9\n",
                               "open,32,16777216,24\nno,behind\nok,1,0.000000002\n")
 
     def test_a_reading_past_a_limit_is_refused_before_the_last_request(self):
-        # MONOTONIC reaches its limit at the reading 7 + 946080000 s, before the mark
+        # MONOTONIC reaches its limit at the reading 7 + 946080000 s, before the last account
         past = 946_080_000 * 10**9 + 7
-        self.check_report(continued(0, 17 * 10**17, mark=2**60) + "".join(
+        self.check_report(continued(0, 17 * 10**17, last_account=2**60) + "".join(
             f"update,{reading}\n" + request(reading, 0) for reading in (6, 7, past - 1, past, 2**60 - 1)),
             "open,64,16777216,24\n" + 6 * "no,behind\n" + 4 * "no,range\n")
 

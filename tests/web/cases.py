@@ -3,7 +3,7 @@ import re
 
 MARK = b"\xef\xbb\xbf"  # of the order of bytes
 OPEN = b"open,32,16777216,24,0,1700000000,0\n"
-# steered clocks whose mark is after the beginning of their next second, as no calls leave them
+# steered clocks whose last account is after the beginning of their next second, as no calls leave them
 MARKED = (b"openwords,32,3495253333,26,5,2597764268,3497000960,9033614093229567,29,1700000000865388708,0,0,"
           b"9000682596261628,29,15,10005,100,8225,2,1,1700006399,0,4,16000000,10000,10000,2147483648000000,"
           b"1700000031,0,0,1152921504607786901,16879380609053491200,1700000031,2632316711\n"

@@ -38,6 +38,6 @@ ntp_storage front steered = record {
   lag = lag_numbers steered.steering.lag;
   length = second_length steered.steering.ntp;
   next = steered.next;
-  mark = steered.mark;
+  last_account = steered.last_account;
   front = front;
 }

@@ -19,7 +19,7 @@ use Rattle.tk_c.specs.NtpStorage.{ntp_storage}
 use Rattle.tk_c.specs.Restored.{clock_with}
 use Rattle.tk_c.specs.Saved.{saved, counter_of_words, saved_frequency, saved_tick}
 
--- the 18 words of the numbers that a discipline, its lag, the next second and the mark are kept in:
+-- the 18 words of the numbers that a discipline, its lag, the next second and the last account are kept in:
 -- those with a sign in two's complement
 abbrev pub number_words : SteeredNumbers → List ℕ
 number_words numbers =
@@ -28,7 +28,7 @@ number_words numbers =
     ∷ cast_unsigned w64 ntp.offset ∷ ntp.constant ∷ ntp.maxerror ∷ ntp.esterror ∷ ntp.tick
     ∷ cast_unsigned w64 ntp.frequency ∷ ntp.reftime ∷ cast_unsigned w64 ntp.adjust
     ∷ cast_unsigned w64 ntp.phase ∷ numbers.steering.lag.high ∷ numbers.steering.lag.low
-    ∷ numbers.next ∷ numbers.mark ∷ []
+    ∷ numbers.next ∷ numbers.last_account ∷ []
 
 -- the words of steered clocks with their counter: the first 15 are those of their clocks, with the
 -- front of the steered clocks; the others are their numbers
@@ -69,7 +69,7 @@ numbers_in words = record {
     lag = record { high = slice_index words 14; low = slice_index words 15 };
   };
   next = slice_index words 16;
-  mark = slice_index words 17;
+  last_account = slice_index words 17;
 }
 
 -- the numbers that 18 words represent, if each word fits in its number's bits

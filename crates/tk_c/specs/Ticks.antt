@@ -7,7 +7,7 @@ use Rattle.tk_ntp.specs.Keeping.{IsTickedTo}
 use Rattle.tk_ntp.specs.SteeredClock.{SteeredClock}
 use Rattle.tk_c.specs.declared.counted_ntp.SteeredCount.{SteeredCount}
 use Rattle.tk_c.specs.declared.storage.SnapshotStorage.{SnapshotStorage}
-use Rattle.tk_c.specs.declared.ticks.TickMarks.{TickMarks}
+use Rattle.tk_c.specs.declared.ticks.TickNumbers.{TickNumbers}
 use Rattle.tk_c.specs.CallResults.{code_of_call}
 use Rattle.tk_c.specs.Codes.{number_of}
 use Rattle.tk_c.specs.CountedNtp.{counted_clock}
@@ -15,8 +15,8 @@ use Rattle.tk_c.specs.Room.{HasCounted, HasRoom, IsShort, clocks_of}
 use Rattle.tk_c.specs.Storage.{snapshot_storage}
 
 -- the numbers of clocks that differ after a tick that changed them
-abbrev pub marks_of : SteeredClock → TickMarks
-marks_of steered = record {
+abbrev pub tick_numbers_of : SteeredClock → TickNumbers
+tick_numbers_of steered = record {
   next = steered.next;
   real_offset = unsigned_abs steered.clock.base.real_offset;
   mult = steered.clock.base.mult;
@@ -24,7 +24,7 @@ marks_of steered = record {
 
 -- what changed: 1 if a second has begun, 2 if REALTIME has leapt, 4 if the rate is another, and the
 -- sum of these. As an inserted second begins, the same second comes next as before
-abbrev pub changes : TickMarks → TickMarks → ℕ
+abbrev pub changes : TickNumbers → TickNumbers → ℕ
 changes before after =
     (if nat_eq before.next after.next && nat_eq before.real_offset after.real_offset then 0 else 1)
     + (if nat_eq before.real_offset after.real_offset then 0 else 2)
@@ -39,7 +39,7 @@ IsTickWritten called old out changed new out' changed' =
       front = new.front;
       base = new.steered.clock.base;
     }))
-    × (changed' ≡ changes (marks_of old.steered) (marks_of new.steered)))
+    × (changed' ≡ changes (tick_numbers_of old.steered) (tick_numbers_of new.steered)))
     (λ refusal. (out' ≡ out) × (changed' ≡ changed))
 
 -- the code of a tick, the clocks after it, and what is written. `commands` names the commands of each

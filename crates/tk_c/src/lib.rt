@@ -85,7 +85,7 @@ pub use snapshots::{tkc_snapshot_convert, tkc_snapshot_get};
 pub use steered_parts::{tkc_ntp_frequency, tkc_ntp_leap, tkc_ntp_status, tkc_ntp_tick_length};
 pub use steps::tkc_snapshot_step;
 pub use storage::{BaseStorage, ClockStorage, CounterStorage, SnapshotStorage, TimeStorage};
-pub use ticks::{TICK_LEAP, TICK_RATE, TICK_SECOND, TickMarks, tkc_ntp_tick};
+pub use ticks::{TICK_LEAP, TICK_RATE, TICK_SECOND, TickNumbers, tkc_ntp_tick};
 pub use timex::KernelTimex;
 pub use version::tkc_version;
 pub use words::{

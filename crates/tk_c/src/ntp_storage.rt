@@ -72,7 +72,7 @@ pub struct NtpStorage {
     /// The second of REALTIME that begins next.
     pub next: u64,
     /// The reading up to which the lag is accounted for.
-    pub mark: u64,
+    pub last_account: u64,
 }
 
 /// Writes steered clocks field by field, so that the call's frame contains no copy of them.
@@ -89,7 +89,7 @@ pub(crate) fn store_ntp(out: &mut NtpStorage, counted: &SteeredCount)
     out.lag = numbers.steering.lag;
     out.length = counted.steered.second_length();
     out.next = numbers.next;
-    out.mark = numbers.mark;
+    out.last_account = numbers.last_account;
     out.front = counted.front;
 }
 

@@ -32,7 +32,7 @@ pub(crate) fn number_words(numbers: SteeredNumbers) -> [u64; NUMBER_WORDS]
         lag.high,
         lag.low,
         numbers.next,
-        numbers.mark,
+        numbers.last_account,
     ]
 }
 
@@ -67,6 +67,6 @@ pub(crate) fn numbers_of_words(words: &[u64; NUMBER_WORDS]) -> Option<SteeredNum
     Some(SteeredNumbers {
         steering: SteeringNumbers { ntp, lag },
         next: words[16],
-        mark: words[17],
+        last_account: words[17],
     })
 }

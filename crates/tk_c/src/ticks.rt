@@ -1,7 +1,7 @@
 //! Lets steered clocks pass a tick of a kernel in one call.
 ghost use Rattle.std.specs.Prelude.{◌≡◌};
 ghost use Rattle.tk_c.specs.CountedNtp.{whole};
-ghost use Rattle.tk_c.specs.Ticks.{IsTicked, changes, marks_of};
+ghost use Rattle.tk_c.specs.Ticks.{IsTicked, changes, tick_numbers_of};
 
 use crate::code::Code;
 use crate::counted_ntp::CountedNtp;
@@ -19,7 +19,7 @@ pub const TICK_RATE: u32 = 4;
 
 /// Contains the numbers of clocks that differ after a tick that changed them.
 #[derive(Clone, Copy)]
-pub struct TickMarks {
+pub struct TickNumbers {
     /// The second of REALTIME that begins next.
     pub next: u64,
     /// REALTIME minus MONOTONIC, in ns.
@@ -48,11 +48,11 @@ pub extern "C" fn tkc_ntp_tick(
     ensures { IsTicked (whole ntp.old) reading out.old changed.old result out.new changed.new
         (whole ntp.new) }
 {
-    let before = marks(ntp);
+    let before = tick_numbers(ntp);
     match ntp.course.tick(&mut ntp.clocks, 0, reading) {
         Ok(()) => {
             store_snapshot(out, ntp.clocks.clock.snapshot(ntp.clocks.front));
-            *changed = changes(&before, &marks(ntp));
+            *changed = changes(&before, &tick_numbers(ntp));
             Code::Done.number()
         }
         Err(refusal) => Code::from(refusal).number(),
@@ -61,11 +61,11 @@ pub extern "C" fn tkc_ntp_tick(
 
 /// Returns the numbers of these clocks that differ after a tick that changed them.
 #[inline(always)]
-fn marks(ntp: &CountedNtp) -> TickMarks
-    ensures { result ≡ marks_of (whole ntp.now).steered }
+fn tick_numbers(ntp: &CountedNtp) -> TickNumbers
+    ensures { result ≡ tick_numbers_of (whole ntp.now).steered }
 {
     let now = ntp.clocks.clock.snapshot(0);
-    TickMarks {
+    TickNumbers {
         next: ntp.course.coming_second(),
         real_offset: now.real_offset(),
         mult: now.mult(),
@@ -74,7 +74,7 @@ fn marks(ntp: &CountedNtp) -> TickMarks
 
 /// Returns what changed, as the sum of its bits. As an inserted second begins, the same second of
 /// REALTIME comes next as before.
-fn changes(before: &TickMarks, after: &TickMarks) -> u32
+fn changes(before: &TickNumbers, after: &TickNumbers) -> u32
     ensures { result ≡ changes before.now after.now }
 {
     let is_leap = before.real_offset != after.real_offset;

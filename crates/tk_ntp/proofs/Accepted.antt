@@ -84,7 +84,7 @@ accepted : (reading : ℕ) (s : SteeredClock) → reading_refusal reading s ≡ 
     state_refusal s.clock reading Update ≡ None
 accepted reading s h =
     first (state_refusal s.clock reading Update)
-    (order_refusal s.clock.base.counter s.mark reading Update) h
+    (order_refusal s.clock.base.counter s.last_account reading Update) h
 
 -- the clocks are awake
 pub awake_at : (reading : ℕ) (s : SteeredClock) → reading_refusal reading s ≡ None →
@@ -98,11 +98,11 @@ ahead_at reading s h = ahead_before s.clock reading Update refl (accepted readin
 
 -- the reading is at most half the range after the last account
 pub after_mark : (reading : ℕ) (s : SteeredClock) → reading_refusal reading s ≡ None →
-    gap s.clock.base.counter s.mark reading ≤ half s.clock.base.counter
+    gap s.clock.base.counter s.last_account reading ≤ half s.clock.base.counter
 after_mark reading s h =
-    in_order s.clock.base.counter s.mark reading Update refl
+    in_order s.clock.base.counter s.last_account reading Update refl
     (later (state_refusal s.clock reading Update)
-    (order_refusal s.clock.base.counter s.mark reading Update) h)
+    (order_refusal s.clock.base.counter s.last_account reading Update) h)
 
 was_asleep : (asleep : Bool) (away : Timespec) → sleep_refusal asleep (Resume away) ≡ None →
     asleep ≡ true

@@ -8,7 +8,7 @@ use Rattle.tk_clock.specs.declared.clock_id.ClockId.TheVariants.{Realtime}
 use Rattle.tk_clock.specs.Reach.{IsAhead, HasReached, distance}
 use Rattle.tk_clock.specs.State.{State, base_value}
 use Rattle.tk_clock.specs.Time.{nanoseconds}
-use Rattle.tk_ntp.specs.Account.{units_at, owed, cycles_to, lag_to, asked_to, dropped_at, dropped_to, asked_of, dropped_of, AreKept, IsMarked, IsAccounted}
+use Rattle.tk_ntp.specs.Account.{units_at, owed, cycles_to, lag_to, asked_to, dropped_at, dropped_to, asked_of, dropped_of, AreKept, IsConsistent, IsAccounted}
 use Rattle.tk_ntp.specs.Advance.{IsAdvanced, Arrived, Begins, IsDue, second_begun_at, second_time, with_next_second}
 use Rattle.tk_ntp.specs.Lag.{greatest_lag}
 use Rattle.tk_ntp.specs.Loops.{clamped_by}
@@ -50,7 +50,7 @@ conserved u c m n lag after x =
     (finish (pos u *ℤ pos n) (pos c *ℤ (pos m *ℤ pos n)) (pos (u + c * m) *ℤ pos n) lag after
     (pos c *ℤ x) (products u c m n))
 
-pub owed_is : (s : SteeredClock) (at u : ℕ) (lag : ℤ) → s.mark ≡ at → units_at at s.clock ≡ u →
+pub owed_is : (s : SteeredClock) (at u : ℕ) (lag : ℤ) → s.last_account ≡ at → units_at at s.clock ≡ u →
     s.steering.lag ≡ lag → owed s ≡ pos u *ℤ pos nominal +ℤ lag
 owed_is s at u lag m e l =
     ap (λ (k : ℕ). pos (units_at k s.clock) *ℤ pos nominal +ℤ s.steering.lag) m
@@ -61,41 +61,41 @@ split : (a k d m g : ℕ) → g ≡ k + d → a + g * m ≡ a + k * m + d * m
 split a k d m g h = rw h (omega arith)
 
 -- MONOTONIC at a reading, and at an earlier one
-units_later : (clock : State) (mark at : ℕ) →
-    distance clock.base mark ≤ distance clock.base at →
-    units_at at clock ≡ units_at mark clock + gap clock.base.counter mark at * clock.base.mult
-units_later clock mark at order =
+units_later : (clock : State) (last_account at : ℕ) →
+    distance clock.base last_account ≤ distance clock.base at →
+    units_at at clock ≡ units_at last_account clock + gap clock.base.counter last_account at * clock.base.mult
+units_later clock last_account at order =
     let base = clock.base in
-    let d = gap base.counter mark at in
-    let k = gap base.counter base.last mark in
+    let d = gap base.counter last_account at in
+    let k = gap base.counter base.last last_account in
     let g = gap base.counter base.last at in
-    let later : d ≡ g - k = later_gap base.counter base.last mark at order in
+    let later : d ≡ g - k = later_gap base.counter base.last last_account at order in
     split base.amount k d base.mult g (omega (arith, later, order))
 
 -- one account, at a reading at which MONOTONIC stays
-pub account-sum : (at : ℕ) (lag : ℤ) (before after : SteeredClock) → after.mark ≡ at →
+pub account-sum : (at : ℕ) (lag : ℤ) (before after : SteeredClock) → after.last_account ≡ at →
     after.steering.lag ≡ lag → units_at at after.clock ≡ units_at at before.clock →
-    distance before.clock.base before.mark ≤ distance before.clock.base at →
+    distance before.clock.base before.last_account ≤ distance before.clock.base at →
     owed before +ℤ asked_to at before ≡ owed after +ℤ dropped_to at lag before
-account-sum at lag before after mark is units order =
+account-sum at lag before after last_account is units order =
     let base = before.clock.base in
-    let u = units_at before.mark before.clock in
+    let u = units_at before.last_account before.clock in
     let c = cycles_to at before in
     conserved u c base.mult nominal before.steering.lag lag
     (pos base.counter.mult *ℤ second_length before.steering.ntp)
     ∙ ap (λ z. z +ℤ dropped_to at lag before)
     (sym
-    (owed_is after at (u + c * base.mult) lag mark
-    (units ∙ units_later before.clock before.mark at order) is))
+    (owed_is after at (u + c * base.mult) lag last_account
+    (units ∙ units_later before.clock before.last_account at order) is))
 
 second-sum : (at : ℕ) (steered : SteeredClock) →
-    distance steered.clock.base steered.mark ≤ distance steered.clock.base at →
+    distance steered.clock.base steered.last_account ≤ distance steered.clock.base at →
     owed steered +ℤ asked_to at steered
     ≡ owed (second_begun_at at steered) +ℤ dropped_at at steered
 second-sum at steered order =
     let made = second-made at steered in
     account-sum at (with_next_second at steered).steering.lag steered (second_begun_at at steered)
-    made.mark made.lag made.units order
+    made.last_account made.lag made.units order
 
 pub chained : (a b c x y p q : ℤ) → a +ℤ x ≡ b +ℤ p → b +ℤ y ≡ c +ℤ q →
     a +ℤ (x +ℤ y) ≡ c +ℤ (p +ℤ q)
@@ -113,7 +113,7 @@ order a b = grind arith
 abbrev pub IsNearer : SteeredClock → Type 0
 IsNearer s = (other : ℕ) → IsAhead s.clock.base other →
     HasReached s.clock.base Realtime (nanoseconds (second_time s.next)) other →
-    distance s.clock.base s.mark ≤ distance s.clock.base other
+    distance s.clock.base s.last_account ≤ distance s.clock.base other
 
 following : (steered : SteeredClock) (reading at other : ℕ) → IsDue steered reading at →
     IsAhead steered.clock.base other →
@@ -134,10 +134,10 @@ second-nearer : (reading at : ℕ) (steered : SteeredClock) → IsDue steered re
 second-nearer reading at steered due =
     let end = second_begun_at at steered in
     let made = second-made at steered in
-    let goal : State → ℕ → ℕ → Type 0 = λ clock mark other.
-    distance clock.base mark ≤ distance clock.base other in
+    let goal : State → ℕ → ℕ → Type 0 = λ clock last_account other.
+    distance clock.base last_account ≤ distance clock.base other in
     λ other ahead reached.
-    subst (λ mark. goal end.clock mark other) (sym made.mark)
+    subst (λ last_account. goal end.clock last_account other) (sym made.last_account)
     (elim made.same as (λ _. goal end.clock at other) [
       | inl e ↦
           let reached' : HasReached end.clock.base Realtime
@@ -155,15 +155,15 @@ second-nearer reading at steered due =
 
 -- the second's reading is the last account's, and at most half the range ahead
 second-ahead : (reading at : ℕ) (steered : SteeredClock) → IsDue steered reading at →
-    distance (second_begun_at at steered).clock.base (second_begun_at at steered).mark
+    distance (second_begun_at at steered).clock.base (second_begun_at at steered).last_account
     ≤ half (second_begun_at at steered).clock.base.counter
 second-ahead reading at steered due =
     let end = second_begun_at at steered in
     let made = second-made at steered in
     let goal : State → Type 0 =
     λ clock. distance clock.base at ≤ half clock.base.counter in
-    subst (λ (mark : ℕ). distance end.clock.base mark ≤ half end.clock.base.counter)
-    (sym made.mark)
+    subst (λ (last_account : ℕ). distance end.clock.base last_account ≤ half end.clock.base.counter)
+    (sym made.last_account)
     (elim made.same as (λ _. goal end.clock) [
       | inl e ↦ subst goal (sym e.0) due.first.ahead.1
       | inr e ↦ subst (λ (last : ℕ). gap end.clock.base.counter last at
@@ -178,33 +178,33 @@ second-awake : (at : ℕ) (steered : SteeredClock) → steered.clock.base.asleep
     (second_begun_at at steered).clock.base.asleep ≡ false
 second-awake at steered awake = (second-made at steered).asleep ∙ awake
 
-second-marked : (reading at : ℕ) (steered : SteeredClock) → IsDue steered reading at →
-    steered.clock.base.asleep ≡ false → IsMarked (second_begun_at at steered)
-second-marked reading at steered due awake = record {
+second-consistent : (reading at : ℕ) (steered : SteeredClock) → IsDue steered reading at →
+    steered.clock.base.asleep ≡ false → IsConsistent (second_begun_at at steered)
+second-consistent reading at steered due awake = record {
   ahead = second-ahead reading at steered due;
   asleep = λ is. absurd (never (sym is ∙ second-awake at steered awake));
   nearer = second-nearer reading at steered due;
 }
 
 pub sum-of : (reading : ℕ) (before after : SteeredClock) (h : IsAdvanced reading before after) →
-    IsMarked before → before.clock.base.asleep ≡ false →
+    IsConsistent before → before.clock.base.asleep ≡ false →
     owed before +ℤ asked_of reading before after h
     ≡ owed after +ℤ dropped_of reading before after h
-sum-of reading before after (Arrived steered none) marked awake = refl
-sum-of reading before after (Begins steered end at due rest) marked awake =
+sum-of reading before after (Arrived steered none) consistent awake = refl
+sum-of reading before after (Begins steered end at due rest) consistent awake =
     let next = second_begun_at at steered in
     chained (owed steered) (owed next) (owed end) (asked_to at steered)
     (asked_of reading next end rest) (dropped_at at steered) (dropped_of reading next end rest)
-    (second-sum at steered (marked.nearer at due.first.ahead due.first.reached))
-    (sum-of reading next end rest (second-marked reading at steered due awake)
+    (second-sum at steered (consistent.nearer at due.first.ahead due.first.reached))
+    (sum-of reading next end rest (second-consistent reading at steered due awake)
     (second-awake at steered awake))
 
-pub marked-after : (reading : ℕ) (before after : SteeredClock) → IsAdvanced reading before after →
-    IsMarked before → before.clock.base.asleep ≡ false → IsMarked after
-marked-after reading before after (Arrived steered none) marked awake = marked
-marked-after reading before after (Begins steered end at due rest) marked awake =
-    marked-after reading (second_begun_at at steered) end rest
-    (second-marked reading at steered due awake) (second-awake at steered awake)
+pub consistent-after : (reading : ℕ) (before after : SteeredClock) → IsAdvanced reading before after →
+    IsConsistent before → before.clock.base.asleep ≡ false → IsConsistent after
+consistent-after reading before after (Arrived steered none) consistent awake = consistent
+consistent-after reading before after (Begins steered end at due rest) consistent awake =
+    consistent-after reading (second_begun_at at steered) end rest
+    (second-consistent reading at steered due awake) (second-awake at steered awake)
 
 pub awake-after : (reading : ℕ) (before after : SteeredClock) → IsAdvanced reading before after →
     before.clock.base.asleep ≡ false → after.clock.base.asleep ≡ false
@@ -225,10 +225,10 @@ kept-of reading before after (Begins steered end at due rest) = (
 )
 
 pub accounted_for : (reading : ℕ) (before after : SteeredClock) → IsAdvanced reading before after →
-    before.clock.base.asleep ≡ false → IsMarked before → IsAccounted reading before after
-accounted_for reading before after h awake marked = record {
+    before.clock.base.asleep ≡ false → IsConsistent before → IsAccounted reading before after
+accounted_for reading before after h awake consistent = record {
   begun = h;
-  sum = sum-of reading before after h marked awake;
+  sum = sum-of reading before after h consistent awake;
   kept = kept-of reading before after h;
-  marked = marked-after reading before after h marked awake;
+  consistent = consistent-after reading before after h consistent awake;
 }

@@ -36,23 +36,23 @@ none_small counter = record {
 }
 
 pub left-small : (sets : Bool) (s after : SteeredClock) →
-    IsLeft sets after.mark after.steering.lag s → IsSmallAfter s after
+    IsLeft sets after.last_account after.steering.lag s → IsSmallAfter s after
 left-small true s after left = λ chosen cycles since long.
     subst (IsSmall s.clock.base.counter) (sym left) (none_small s.clock.base.counter)
 left-small false s after left = λ chosen cycles since long.
-    (left-since s after.mark after.steering.lag chosen cycles since long left).1
+    (left-since s after.last_account after.steering.lag chosen cycles since long left).1
 
 -- a call that keeps the rate and the length of the second
 pub kept-since : (s after : SteeredClock) → IsSameRate s.clock after.clock →
     second_length after.steering.ntp ≡ second_length s.steering.ntp →
-    IsLeft false after.mark after.steering.lag s → IsSinceAfter s after
+    IsLeft false after.last_account after.steering.lag s → IsSinceAfter s after
 kept-since s after rate length left = λ chosen cycles since long.
     let base = s.clock.base in
     let base' = after.clock.base in
     let l = second_length s.steering.ntp in
     let l' = second_length after.steering.ntp in
     let lag = after.steering.lag in
-    let n = cycles + cycles_to after.mark s in
+    let n = cycles + cycles_to after.last_account s in
     let parts : Counter → ℤ → ℕ → Type 0 = λ c z m.
     IsCounter c × IsSmall c chosen × IsInRange (z +ℤ made_up c chosen)
     × IsGiven c (z +ℤ made_up c chosen) m
@@ -62,7 +62,7 @@ kept-since s after rate length left = λ chosen cycles since long.
       since.small,
       since.rate.range,
       since.rate.given,
-      (left-since s after.mark lag chosen cycles since long left).0,
+      (left-since s after.last_account lag chosen cycles since long left).0,
     ) in
     let there : parts base'.counter l' base'.mult =
     subst (λ (c : Counter). parts c l' base'.mult) (sym rate.counter)
@@ -78,7 +78,7 @@ kept-since s after rate length left = λ chosen cycles since long.
 -- a call that leaves the state `there`, which has the rate and the length of the second
 same-since : (s after there : SteeredClock) → after ≡ there → IsSameRate s.clock there.clock →
     second_length there.steering.ntp ≡ second_length s.steering.ntp →
-    IsLeft false after.mark after.steering.lag s → IsSinceAfter s after
+    IsLeft false after.last_account after.steering.lag s → IsSinceAfter s after
 same-since s after there is rate length left =
     kept-since s after
     (subst (IsSameRate s.clock) (sym (ap (λ (t : SteeredClock). t.clock) is)) rate)
@@ -180,7 +180,7 @@ keeping reading (Resume away) s keeps = absurd (never (sym keeps))
 
 command-since : (reading : ℕ) (cmd : Command) (s after : SteeredClock)
     (result : Result ⊤ Refusal) → KeepsRate reading cmd s → IsCommanded reading cmd s result after →
-    IsLeft false after.mark after.steering.lag s → IsSinceAfter s after
+    IsLeft false after.last_account after.steering.lag s → IsSinceAfter s after
 command-since reading cmd s after (Err refusal) is h left =
     same-since s after s h.1 (record { counter = refl; mult = refl }) refl left
 command-since reading cmd s after (Ok done) is h left =
@@ -200,7 +200,7 @@ commanded-small reading cmd s advanced after result awake chain h =
       since = λ keeps.
           let is = keeping reading cmd advanced keeps in
           command-since reading cmd advanced after result is h
-          (subst (λ (sets : Bool). IsLeft sets after.mark after.steering.lag advanced) is.unset
+          (subst (λ (sets : Bool). IsLeft sets after.last_account after.steering.lag advanced) is.unset
           left);
     }
 

@@ -13,7 +13,7 @@ use Rattle.tk_clock.specs.declared.refusal.Refusal.{Refusal}
 use Rattle.tk_clock.specs.State.{forwarded}
 use Rattle.tk_clock.proofs.ChangeCounter.{KeepsTimes-changed}
 use Rattle.tk_clock.proofs.Rescaling.{IsKeptAmount-rescaled}
-use Rattle.tk_ntp.specs.Account.{units_at, owed, IsBalanced, IsMarked}
+use Rattle.tk_ntp.specs.Account.{units_at, owed, IsBalanced, IsConsistent}
 use Rattle.tk_ntp.specs.Advance.{IsAdvanced}
 use Rattle.tk_ntp.specs.ChangeCounter.{accounted_awake, lag_over, rescaled_lag, steered_over, turn_refusal, IsAdvancedAwake, IsCounterChanged, IsTurnedOver}
 use Rattle.tk_ntp.specs.ChangeLaws.{limited, AreKeptAwake, IsBalancedOver, IsKeptOver, IsOwedOver}
@@ -185,11 +185,11 @@ over_by asleep reading counter first s =
         lag = lag_over base.counter counter accounted.steering.lag;
       };
       next = s.next;
-      mark = first;
+      last_account = first;
     }
 
 over-owed : (asleep : Bool) (reading : ℕ) (counter : Counter) (first : ℕ) (s : SteeredClock) →
-    (asleep ≡ true → s.mark ≡ s.clock.base.last) →
+    (asleep ≡ true → s.last_account ≡ s.clock.base.last) →
     IsOwedOver s.clock.base.counter.shift counter.shift
     (owed (limited (accounted_awake asleep reading s)))
     (owed (over_by asleep reading counter first s))
@@ -252,22 +252,22 @@ kept-awake false reading s advanced h = (
 -- the accounts, right before the change
 balanced-awake : (asleep : Bool) (reading : ℕ) (s advanced : SteeredClock) →
     (asleep ≡ false → reading_refusal reading s ≡ None) →
-    IsAdvancedAwake asleep reading s advanced → IsMarked s →
+    IsAdvancedAwake asleep reading s advanced → IsConsistent s →
     IsBalanced (λ _. false) reading s (accounted_awake asleep reading advanced)
-balanced-awake true reading s advanced accepted h marked = inl h
-balanced-awake false reading s advanced accepted h marked =
+balanced-awake true reading s advanced accepted h consistent = inl h
+balanced-awake false reading s advanced accepted h consistent =
     inr (settled (λ _. false) reading s advanced (accounted_to reading advanced) (accepted refl) h
-    marked (inr (refl, refl)) (accounted-left reading advanced))
+    consistent (inr (refl, refl)) (accounted-left reading advanced))
 
 -- the last account stays at the last command while the clocks are asleep
 at-last : (asleep : Bool) (reading : ℕ) (s advanced : SteeredClock) → s.clock.base.asleep ≡ asleep →
-    IsAdvancedAwake asleep reading s advanced → IsMarked s →
-    asleep ≡ true → advanced.mark ≡ advanced.clock.base.last
-at-last true reading s advanced is h marked asleep =
-    ap (λ (t : SteeredClock). t.mark) h
-    ∙ marked.asleep is
+    IsAdvancedAwake asleep reading s advanced → IsConsistent s →
+    asleep ≡ true → advanced.last_account ≡ advanced.clock.base.last
+at-last true reading s advanced is h consistent asleep =
+    ap (λ (t : SteeredClock). t.last_account) h
+    ∙ consistent.asleep is
     ∙ sym (ap (λ (t : SteeredClock). t.clock.base.last) h)
-at-last false reading s advanced is h marked asleep = absurd (never (sym asleep))
+at-last false reading s advanced is h consistent asleep = absurd (never (sym asleep))
 
 -- the clocks stay asleep or awake as the seconds begin
 asleep-kept : (asleep : Bool) (reading : ℕ) (s advanced : SteeredClock) →
@@ -297,8 +297,8 @@ module _ (reading : ℕ) (counter : Counter) (first : ℕ) (s after : SteeredClo
         times = KeepsTimes-changed advanced.clock reading counter first fits;
       }))
 
-  pub changed_sum : IsMarked s → IfOk result (λ _. IsBalancedOver reading s after)
-  changed_sum marked =
+  pub changed_sum : IsConsistent s → IfOk result (λ _. IsBalancedOver reading s after)
+  changed_sum consistent =
       let asleep = s.clock.base.asleep in
       changed-holds (IsBalancedOver reading s after) reading counter first s after result
       (turn_refusal reading counter first s) refl h
@@ -317,14 +317,14 @@ module _ (reading : ℕ) (counter : Counter) (first : ℕ) (s after : SteeredClo
         balanced =
             subst (λ (test : Bool). IsBalanced (λ _. false) reading s
             (accounted_awake test reading advanced)) (sym same)
-            (balanced-awake asleep reading s advanced awake chain marked);
+            (balanced-awake asleep reading s advanced awake chain consistent);
         over =
             subst (λ (c : Counter). IsOwedOver c.shift counter.shift
             (owed (limited (accounted_awake advanced.clock.base.asleep reading advanced)))
             (owed (steered_over reading counter first advanced)))
             (sym (same-counter advanced.clock.base.asleep reading advanced))
             (over-owed advanced.clock.base.asleep reading counter first advanced
-            (λ e. at-last asleep reading s advanced refl chain marked (sym same ∙ e)));
+            (λ e. at-last asleep reading s advanced refl chain consistent (sym same ∙ e)));
       }))
     where
       same-counter : (test : Bool) (reading : ℕ) (t : SteeredClock) →

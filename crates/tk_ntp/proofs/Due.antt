@@ -71,5 +71,5 @@ pub followed : (reading : ‚Ñï) (before after : SteeredClock) (result : Result ‚ä
     IsFollowed reading Update before result after
 followed reading before after result settled h =
     followed-by (state_refusal before.clock reading Update)
-    (order_refusal before.clock.base.counter before.mark reading Update) reading before after
+    (order_refusal before.clock.base.counter before.last_account reading Update) reading before after
     result settled.none settled.order refl h

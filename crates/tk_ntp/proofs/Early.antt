@@ -102,7 +102,7 @@ updated early last steered h low =
     subst (λ n. n ≤ half base.counter + 1) (sym (rest-of early d low)) h.ahead.near in
     record {
       awake = h.awake;
-      mark = refl;
+      last_account = refl;
       ahead = record {
         near = fewer-left early d (half base.counter + 1) h.ahead.near;
         none = λ reading few at ahead order reached.
@@ -131,7 +131,7 @@ settled early reading steered h low =
     record {
       none = h.ahead.none reading low;
       order = ap (λ b. if b then Some Behind else None)
-          (le-ltb _ _ (subst (λ (mark : ℕ). gap counter mark reading ≤ half counter) (sym h.mark)
+          (le-ltb _ _ (subst (λ (last_account : ℕ). gap counter last_account reading ≤ half counter) (sym h.last_account)
           (no-more early (half counter) (gap counter steered.clock.base.last reading) h.ahead.near
           low)));
     }

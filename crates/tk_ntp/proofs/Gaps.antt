@@ -50,33 +50,33 @@ order_kept counter last at earlier later h k =
     omega arith
 
 -- a gap that starts where another one ends
-pub sum_gap : (counter : Counter) (last mark x : ℕ) →
-    gap counter last mark + gap counter mark x < 2 ^ counter.bits →
-    gap counter last x ≡ gap counter last mark + gap counter mark x
-sum_gap counter last mark x few =
+pub sum_gap : (counter : Counter) (last last_account x : ℕ) →
+    gap counter last last_account + gap counter last_account x < 2 ^ counter.bits →
+    gap counter last x ≡ gap counter last last_account + gap counter last_account x
+sum_gap counter last last_account x few =
     let d = 2 ^ counter.bits in
     let some = pow_pos counter.bits in
-    let g = gap counter last mark in
-    let k = gap counter mark x in
+    let g = gap counter last last_account in
+    let k = gap counter last_account x in
     let e : last + g + k ≡ last + (g + k) = omega arith in
     sym (mod-add-mod x d (d - last % d))
     ∙ ap (λ n. (x % d + (d - n)) % d) (sym (mod-mod last d))
-    ∙ ap (λ n. (n + (d - last % d % d)) % d) (sym (reached d mark x some))
-    ∙ ap (λ n. (n + (d - last % d % d)) % d) (sym (mod-add-mod mark d k))
-    ∙ ap (λ n. ((n + k) % d + (d - last % d % d)) % d) (sym (reached d last mark some))
+    ∙ ap (λ n. (n + (d - last % d % d)) % d) (sym (reached d last_account x some))
+    ∙ ap (λ n. (n + (d - last % d % d)) % d) (sym (mod-add-mod last_account d k))
+    ∙ ap (λ n. ((n + k) % d + (d - last % d % d)) % d) (sym (reached d last last_account some))
     ∙ ap (λ n. (n + (d - last % d % d)) % d) (mod-add-mod (last + g) d k)
     ∙ ap (λ n. (n % d + (d - last % d % d)) % d) e
     ∙ counted_gap d last (last + (g + k)) some (omega arith) (omega (arith, few))
     ∙ omega arith
 
 -- a reading ahead of another one, which is ahead of the last one, is no nearer to the last one
-pub further : (counter : Counter) (last mark x : ℕ) → gap counter last mark ≤ half counter →
-    gap counter mark x ≤ half counter → gap counter last mark ≤ gap counter last x
-further counter last mark x h k =
+pub further : (counter : Counter) (last last_account x : ℕ) → gap counter last last_account ≤ half counter →
+    gap counter last_account x ≤ half counter → gap counter last last_account ≤ gap counter last x
+further counter last last_account x h k =
     let some = pow_pos counter.bits in
-    let few : gap counter last mark + gap counter mark x < 2 ^ counter.bits =
-    halves (2 ^ counter.bits) (gap counter last mark) (gap counter mark x) some h k in
-    rw (sum_gap counter last mark x few) (omega arith)
+    let few : gap counter last last_account + gap counter last_account x < 2 ^ counter.bits =
+    halves (2 ^ counter.bits) (gap counter last last_account) (gap counter last_account x) some h k in
+    rw (sum_gap counter last last_account x few) (omega arith)
   where
     halves : (d g k : ℕ) → 0 < d → g ≤ (d - 1) / 2 → k ≤ (d - 1) / 2 → g + k < d
     halves d g k some p q = omega arith

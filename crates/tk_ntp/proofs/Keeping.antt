@@ -88,7 +88,7 @@ module _ {X : Type 0} (state : X → State) (is_after : X → List Entry → X �
       IsFollowedTo state is_after has_room is_short who reading Update a before result b after
   followed stays who reading a before result b after settled room h =
       followed-by stays (state_refusal (state a) reading Update)
-      (order_refusal (state a).base.counter before.mark reading Update) who reading a before
+      (order_refusal (state a).base.counter before.last_account reading Update) who reading a before
       result b after settled.none settled.order refl room h
 
   ticked-by : (stays : (a : X) → is_after a [] a) (refused order : Option Refusal)
@@ -141,7 +141,7 @@ module _ {X : Type 0} (state : X → State) (is_after : X → List Entry → X �
   ticked stays who reading a before result b after settled room h =
       stated who reading a before result b after
       (ticked-by stays (state_refusal (state a) reading Update)
-      (order_refusal (state a).base.counter before.mark reading Update) who reading a before
+      (order_refusal (state a).base.counter before.last_account reading Update) who reading a before
       result b after settled.none settled.order refl room h)
 
   answered-by : (faulty : Bool) (refused : Option Refusal) (who reading : ℕ) (request : Timex)

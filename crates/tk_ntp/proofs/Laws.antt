@@ -7,7 +7,7 @@ use Rattle.tk_clock.specs.declared.refusal.Refusal.TheVariants.{Invalid}
 use Rattle.tk_clock.specs.Command.{is_resume}
 use Rattle.tk_ntp.specs.declared.reply.Reply.{Reply}
 use Rattle.tk_ntp.specs.declared.timex.Timex.{Timex}
-use Rattle.tk_ntp.specs.Account.{owed, sets_by, sets_by_step, IsBalanced, IsMarked}
+use Rattle.tk_ntp.specs.Account.{owed, sets_by, sets_by_step, IsBalanced, IsConsistent}
 use Rattle.tk_ntp.specs.Advance.{IsAdvanced, IsAdvancedBy}
 use Rattle.tk_ntp.specs.Applied.{IsApplied, IsPlain, request_of, without_reply}
 use Rattle.tk_ntp.specs.Asked.{IsAnswered, IsAsked, first_fault}
@@ -18,7 +18,7 @@ use Rattle.tk_ntp.specs.SteeredClock.{SteeredClock, reading_refusal}
 use Rattle.tk_ntp.proofs.Accepted.{later}
 use Rattle.tk_ntp.proofs.Acting.{acting, ActsAs, OfFrequency, OfTick}
 use Rattle.tk_ntp.proofs.Called.{asked_small, plain_small, request_small}
-use Rattle.tk_ntp.proofs.Marked.{asked_after, plain-marked}
+use Rattle.tk_ntp.proofs.Consistent.{asked_after, plain-consistent}
 use Rattle.tk_ntp.proofs.Settled.{asked_settled, plain_balanced, request_balanced, woken_owed}
 
 -- what holds if nothing changed, and after the seconds up to the reading and the request
@@ -41,22 +41,22 @@ answered-holds P reading request s after result (Some r) is h same asked = subst
 module _ (reading : ℕ) (request : Timex) (s after : SteeredClock) (result : Result Reply Refusal)
     (h : IsAnswered reading request s result after) where
   -- the last account stays after the last command, and before the next second
-  pub answered_marked : IsMarked s → IsMarked after
-  answered_marked marked =
-      answered-holds IsMarked reading request s after result (first_fault reading request s) refl h
-      marked
+  pub answered_consistent : IsConsistent s → IsConsistent after
+  answered_consistent consistent =
+      answered-holds IsConsistent reading request s after result (first_fault reading request s) refl h
+      consistent
       (λ advanced accepted chain asked.
-      asked_after reading request s advanced after result accepted chain asked marked)
+      asked_after reading request s advanced after result accepted chain asked consistent)
 
   -- the accounts add up to what the clocks were asked for
-  pub answered_sum : IsMarked s →
+  pub answered_sum : IsConsistent s →
       IsBalanced (sets_by_step reading (step_of request)) reading s after
-  answered_sum marked =
+  answered_sum consistent =
       answered-holds (λ (t : SteeredClock).
       IsBalanced (sets_by_step reading (step_of request)) reading s t) reading request s after result
       (first_fault reading request s) refl h (inl refl)
       (λ advanced accepted chain asked.
-      inr (asked_settled reading request s advanced after result accepted chain asked marked))
+      inr (asked_settled reading request s advanced after result accepted chain asked consistent))
 
   -- the lag stays small
   pub answered_small : IsSmallOrSame (keeps_rate request) reading s after
@@ -83,21 +83,21 @@ applied-holds P reading cmd s after result (Some request) is h plain asked =
 
 module _ (reading : ℕ) (cmd : Command) (s after : SteeredClock) (result : Result ⊤ Refusal)
     (h : IsApplied reading cmd s result after) where
-  pub applied_marked : IsMarked s → IsMarked after
-  applied_marked marked =
-      applied-holds (IsMarked after) reading cmd s after result (request_of cmd) refl h
-      (λ plain. plain-marked (is_resume cmd) reading cmd s after result plain marked)
-      (λ request answer is answered. answered_marked reading request s after answer answered marked)
+  pub applied_consistent : IsConsistent s → IsConsistent after
+  applied_consistent consistent =
+      applied-holds (IsConsistent after) reading cmd s after result (request_of cmd) refl h
+      (λ plain. plain-consistent (is_resume cmd) reading cmd s after result plain consistent)
+      (λ request answer is answered. answered_consistent reading request s after answer answered consistent)
 
-  pub applied_sum : IsMarked s → is_resume cmd ≡ false →
+  pub applied_sum : IsConsistent s → is_resume cmd ≡ false →
       IsBalanced (sets_by reading cmd) reading s after
-  applied_sum marked awake =
+  applied_sum consistent awake =
       applied-holds (IsBalanced (sets_by reading cmd) reading s after) reading cmd s after result
       (request_of cmd) refl h
-      (λ plain. plain_balanced reading cmd s after result awake plain marked)
+      (λ plain. plain_balanced reading cmd s after result awake plain consistent)
       (λ request answer is answered.
       request_balanced reading cmd request s after (acting cmd request is)
-      (answered_sum reading request s after answer answered marked))
+      (answered_sum reading request s after answer answered consistent))
 
   pub applied_small : is_resume cmd ≡ false → IsSmallOrSame (is_kept_by cmd) reading s after
   applied_small awake =
@@ -114,11 +114,11 @@ acts-awake cmd request (OfTick tick) is = cc is
 
 -- a resume changes nothing that is owed
 pub applied_woken : (reading : ℕ) (cmd : Command) (s after : SteeredClock)
-    (result : Result ⊤ Refusal) → IsApplied reading cmd s result after → IsMarked s →
+    (result : Result ⊤ Refusal) → IsApplied reading cmd s result after → IsConsistent s →
     is_resume cmd ≡ true → owed after ≡ owed s
-applied_woken reading cmd s after result h marked resumes =
+applied_woken reading cmd s after result h consistent resumes =
     applied-holds (owed after ≡ owed s) reading cmd s after result (request_of cmd) refl h
-    (λ plain. woken_owed reading cmd s after result resumes plain marked)
+    (λ plain. woken_owed reading cmd s after result resumes plain consistent)
     (λ request answer is answered.
     absurd (acts-awake cmd request (acting cmd request is) resumes))
 

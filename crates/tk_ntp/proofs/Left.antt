@@ -28,22 +28,22 @@ nothing : (lag short : ℤ) → lag +ℤ pos 0 *ℤ short -ℤ lag ≡ pos 0
 nothing lag short = rw (zero-*ℤ short) (omega (arith, ints))
 
 -- no account was made
-unchanged : (s : SteeredClock) → dropped_to s.mark s.steering.lag s ≡ pos 0
+unchanged : (s : SteeredClock) → dropped_to s.last_account s.steering.lag s ≡ pos 0
 unchanged s =
     let base = s.clock.base in
-    rw (none_here base.counter s.mark)
+    rw (none_here base.counter s.last_account)
     (nothing s.steering.lag (short_of base.counter (second_length s.steering.ntp) base.mult))
 
-pub same-left : (s after : SteeredClock) → after.mark ≡ s.mark →
-    after.steering.lag ≡ s.steering.lag → IsLeft false after.mark after.steering.lag s
-same-left s after mark lag = λ within.
-    ap (λ (at : ℕ). dropped_to at after.steering.lag s) mark
-    ∙ ap (λ z. dropped_to s.mark z s) lag
+pub same-left : (s after : SteeredClock) → after.last_account ≡ s.last_account →
+    after.steering.lag ≡ s.steering.lag → IsLeft false after.last_account after.steering.lag s
+same-left s after last_account lag = λ within.
+    ap (λ (at : ℕ). dropped_to at after.steering.lag s) last_account
+    ∙ ap (λ z. dropped_to s.last_account z s) lag
     ∙ unchanged s
 
-unmoved-left : (s after : SteeredClock) → after ≡ s → IsLeft false after.mark after.steering.lag s
+unmoved-left : (s after : SteeredClock) → after ≡ s → IsLeft false after.last_account after.steering.lag s
 unmoved-left s after is =
-    same-left s after (ap (λ (t : SteeredClock). t.mark) is)
+    same-left s after (ap (λ (t : SteeredClock). t.last_account) is)
     (ap (λ (t : SteeredClock). t.steering.lag) is)
 
 -- an account at a reading
@@ -60,7 +60,7 @@ none_left refusal at s is =
 command-left : (reading : ℕ) (cmd : Command) (s : SteeredClock) → is_resume cmd ≡ false →
     state_refusal s.clock reading cmd ≡ None →
     let after = after_command reading cmd (effect s.clock reading cmd) s in
-    IsLeft (sets_by reading cmd s) after.mark after.steering.lag s
+    IsLeft (sets_by reading cmd s) after.last_account after.steering.lag s
 command-left reading Update s awake is = accounted-left reading s
 command-left reading (SetTime time) s awake is =
     none_left (state_refusal s.clock reading (SetTime time)) reading s is
@@ -81,12 +81,12 @@ not_set false refusal r is = refl
 
 pub commanded-left : (reading : ℕ) (cmd : Command) (s after : SteeredClock)
     (result : Result ⊤ Refusal) → is_resume cmd ≡ false → IsCommanded reading cmd s result after →
-    IsLeft (sets_by reading cmd s) after.mark after.steering.lag s
+    IsLeft (sets_by reading cmd s) after.last_account after.steering.lag s
 commanded-left reading cmd s after (Ok done) awake h =
-    subst (λ (t : SteeredClock). IsLeft (sets_by reading cmd s) t.mark t.steering.lag s) (sym h.1)
+    subst (λ (t : SteeredClock). IsLeft (sets_by reading cmd s) t.last_account t.steering.lag s) (sym h.1)
     (command-left reading cmd s awake h.0)
 commanded-left reading cmd s after (Err refusal) awake h =
-    subst (λ (sets : Bool). IsLeft sets after.mark after.steering.lag s)
+    subst (λ (sets : Bool). IsLeft sets after.last_account after.steering.lag s)
     (sym (not_set (sets_real cmd) (state_refusal s.clock reading cmd) refusal h.0))
     (unmoved-left s after h.1)
 
@@ -120,7 +120,7 @@ lag-with : (reading : ℕ) (s : SteeredClock) (clock : State) → IsSameRate s.c
     ≡ (accounted_to reading s).steering.lag
 lag-with reading s clock same =
     let lag : Counter → ℕ → ℤ = λ counter mult.
-    lag_after counter (second_length s.steering.ntp) mult (gap counter s.mark reading)
+    lag_after counter (second_length s.steering.ntp) mult (gap counter s.last_account reading)
     s.steering.lag in
     ap (λ (counter : Counter). lag counter clock.base.mult) same.counter
     ∙ ap (λ (mult : ℕ). lag s.clock.base.counter mult) same.mult
@@ -132,7 +132,7 @@ requested-lag : (reading : ℕ) (request : Timex) (s : SteeredClock) (does chang
     let after =
     steered_if changes reading
     (with_asked request real (accounted_if does reading (record s { clock = clock }))) in
-    (after.mark ≡ (accounted_if does reading s).mark)
+    (after.last_account ≡ (accounted_if does reading s).last_account)
     × (after.steering.lag ≡ (accounted_if does reading s).steering.lag)
 requested-lag reading request s true true =
     let tai = tai_asked request s in
@@ -144,13 +144,13 @@ requested-lag reading request s false true = (refl, refl)
 requested-lag reading request s false false = (refl, refl)
 
 if-left : (does : Bool) (reading : ℕ) (s : SteeredClock) →
-    let after = accounted_if does reading s in IsLeft false after.mark after.steering.lag s
+    let after = accounted_if does reading s in IsLeft false after.last_account after.steering.lag s
 if-left true reading s = accounted-left reading s
 if-left false reading s = same-left s s refl refl
 
 pub requested-left : (reading : ℕ) (request : Timex) (s after : SteeredClock)
     (result : Result Reply Refusal) → IsRequested reading request s result after →
-    IsLeft false after.mark after.steering.lag s
+    IsLeft false after.last_account after.steering.lag s
 requested-left reading request s after (Ok reply) h =
     let does = acts request.modes in
     let found = requested-lag reading request s does (changes_rate request.modes) in
@@ -158,46 +158,46 @@ requested-left reading request s after (Ok reply) h =
     let lag : after.steering.lag ≡ (accounted_if does reading s).steering.lag =
     ap (λ (t : SteeredClock). t.steering.lag) h.2 ∙ found.1 in
     subst (λ (at : ℕ). left at after.steering.lag)
-    (sym (ap (λ (t : SteeredClock). t.mark) h.2 ∙ found.0))
-    (subst (left (accounted_if does reading s).mark) (sym lag) (if-left does reading s))
+    (sym (ap (λ (t : SteeredClock). t.last_account) h.2 ∙ found.0))
+    (subst (left (accounted_if does reading s).last_account) (sym lag) (if-left does reading s))
 requested-left reading request s after (Err refusal) h = unmoved-left s after h.1
 
 clamped_none : (most : ℕ) (short : ℤ) → clamped_by most (pos 0 +ℤ pos 0 *ℤ short) ≡ pos 0
 clamped_none most short = rw (zero-*ℤ short) (omega (arith, ints, clamps))
 
-if-none : (does : Bool) (reading : ℕ) (s : SteeredClock) → s.mark ≡ reading →
+if-none : (does : Bool) (reading : ℕ) (s : SteeredClock) → s.last_account ≡ reading →
     s.steering.lag ≡ pos 0 → (accounted_if does reading s).steering.lag ≡ pos 0
-if-none true reading s mark lag =
+if-none true reading s last_account lag =
     let base = s.clock.base in
     let length = second_length s.steering.ntp in
     ap (λ (at : ℕ). lag_after base.counter length base.mult (gap base.counter at reading)
-    s.steering.lag) mark
+    s.steering.lag) last_account
     ∙ ap (λ (cycles : ℕ). lag_after base.counter length base.mult cycles s.steering.lag)
     (none_here base.counter reading)
     ∙ ap (lag_after base.counter length base.mult 0) lag
     ∙ clamped_none (greatest_lag base.counter) (short_of base.counter length base.mult)
-if-none false reading s mark lag = lag
+if-none false reading s last_account lag = lag
 
 requested-none : (reading : ℕ) (request : Timex) (s after : SteeredClock)
     (result : Result Reply Refusal) → IsRequested reading request s result after →
-    s.mark ≡ reading → s.steering.lag ≡ pos 0 → after.steering.lag ≡ pos 0
-requested-none reading request s after (Ok reply) h mark lag =
+    s.last_account ≡ reading → s.steering.lag ≡ pos 0 → after.steering.lag ≡ pos 0
+requested-none reading request s after (Ok reply) h last_account lag =
     let does = acts request.modes in
     ap (λ (t : SteeredClock). t.steering.lag) h.2
     ∙ (requested-lag reading request s does (changes_rate request.modes)).1
-    ∙ if-none does reading s mark lag
-requested-none reading request s after (Err refusal) h mark lag =
+    ∙ if-none does reading s last_account lag
+requested-none reading request s after (Err refusal) h last_account lag =
     ap (λ (t : SteeredClock). t.steering.lag) h.1 ∙ lag
 
 step-left : (reading : ℕ) (request : Timex) (s s' after : SteeredClock)
     (refusal : Option Refusal) (result : Result Reply Refusal) →
     MatchOption refusal (IsRequested reading request s' result after)
     (λ r. (result ≡ Err r) × (after ≡ s)) →
-    s'.mark ≡ reading → s'.steering.lag ≡ pos 0 →
-    IsLeft (is_none refusal) after.mark after.steering.lag s
-step-left reading request s s' after None result h mark lag =
-    requested-none reading request s' after result h mark lag
-step-left reading request s s' after (Some r) result h mark lag = unmoved-left s after h.1
+    s'.last_account ≡ reading → s'.steering.lag ≡ pos 0 →
+    IsLeft (is_none refusal) after.last_account after.steering.lag s
+step-left reading request s s' after None result h last_account lag =
+    requested-none reading request s' after result h last_account lag
+step-left reading request s s' after (Some r) result h last_account lag = unmoved-left s after h.1
 
 -- after a request, and the step that it may ask for
 pub asked-left : (reading : ℕ) (request : Timex) (by : Option Timespec) (s after : SteeredClock)
@@ -205,7 +205,7 @@ pub asked-left : (reading : ℕ) (request : Timex) (by : Option Timespec) (s aft
     MatchOption (step_refusal reading by s)
     (IsRequested reading request (stepped reading by s) result after)
     (λ r. (result ≡ Err r) × (after ≡ s)) →
-    IsLeft (sets_by_step reading by s) after.mark after.steering.lag s
+    IsLeft (sets_by_step reading by s) after.last_account after.steering.lag s
 asked-left reading request None s after result h =
     requested-left reading request s after result h
 asked-left reading request (Some by) s after result h =

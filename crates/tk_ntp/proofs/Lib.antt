@@ -16,8 +16,8 @@ pub mod ChangeLaws
 pub mod Contracted
 pub mod Made
 pub mod MadeUp
-pub mod Marked
-pub mod MarkedLate
+pub mod Consistent
+pub mod ConsistentLate
 pub mod Needed
 pub mod Long
 pub mod Keeping

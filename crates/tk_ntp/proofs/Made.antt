@@ -162,21 +162,21 @@ pub leapt-units : (at : ℕ) (leap : Leap) (steered : SteeredClock) →
     units_at at (leapt at leap steered).clock ≡ units_at at steered.clock
 leapt-units at leap steered = (leapt-made at leap steered).units
 
-leapt_unless-mark : (refusal : Option Refusal) (at : ℕ) (leap : Leap) (steered : SteeredClock) →
-    (leapt_unless refusal at leap steered).mark ≡ steered.mark
-leapt_unless-mark (Some refusal) at leap steered = refl
-leapt_unless-mark None at leap steered = refl
+leapt_unless-last_account : (refusal : Option Refusal) (at : ℕ) (leap : Leap) (steered : SteeredClock) →
+    (leapt_unless refusal at leap steered).last_account ≡ steered.last_account
+leapt_unless-last_account (Some refusal) at leap steered = refl
+leapt_unless-last_account None at leap steered = refl
 
-pub leapt-mark : (at : ℕ) (leap : Leap) (steered : SteeredClock) →
-    (leapt at leap steered).mark ≡ steered.mark
-leapt-mark at leap steered =
-    leapt-by (λ (s : SteeredClock). s.mark ≡ steered.mark) at leap steered refl
-    (λ refusal. leapt_unless-mark refusal at leap steered)
+pub leapt-last_account : (at : ℕ) (leap : Leap) (steered : SteeredClock) →
+    (leapt at leap steered).last_account ≡ steered.last_account
+leapt-last_account at leap steered =
+    leapt-by (λ (s : SteeredClock). s.last_account ≡ steered.last_account) at leap steered refl
+    (λ refusal. leapt_unless-last_account refusal at leap steered)
 
 -- a second that begins keeps MONOTONIC; it needs no command, or its commands are at its reading
 pub record IsSecond (at : ℕ) (before after : SteeredClock) : Type 0 where
   pub units : units_at at after.clock ≡ units_at at before.clock
-  pub mark : after.mark ≡ at
+  pub last_account : after.last_account ≡ at
   pub lag : after.steering.lag ≡ (with_next_second at before).steering.lag
   pub same :
       ((after.clock ≡ before.clock) × (after.next ≡ before.next + 1))
@@ -197,7 +197,7 @@ second-made at steered =
     ⊎ (end.clock.base.last ≡ at) in
     record {
       units = m.units ∙ l.units;
-      mark = leapt-mark at leap begun;
+      last_account = leapt-last_account at leap begun;
       lag = ap (λ (s : Steered). s.lag) (leapt-steering at leap begun);
       same = elim m.same as (λ _. goal) [
         | inl e ↦ elim l.same as (λ _. goal) [

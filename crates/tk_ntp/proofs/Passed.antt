@@ -39,13 +39,13 @@ same_order n = omega arith
 
 -- the last account stays at or before the reading
 pub still_after : (reading : ℕ) (before after : SteeredClock) → IsAdvanced reading before after →
-    distance before.clock.base before.mark ≤ distance before.clock.base reading →
-    distance after.clock.base after.mark ≤ distance after.clock.base reading
+    distance before.clock.base before.last_account ≤ distance before.clock.base reading →
+    distance after.clock.base after.last_account ≤ distance after.clock.base reading
 still_after reading before after (Arrived steered none) order = order
 still_after reading before after (Begins steered end at due rest) order =
     let next = second_begun_at at steered in
     still_after reading next end rest
-    (subst (λ (mark : ℕ). distance next.clock.base mark ≤ distance next.clock.base reading)
-    (sym (second-made at steered).mark)
+    (subst (λ (last_account : ℕ). distance next.clock.base last_account ≤ distance next.clock.base reading)
+    (sym (second-made at steered).last_account)
     (order-near at steered.clock next.clock at reading (second-near at steered)
     (same_order (distance steered.clock.base at)) due.until))

@@ -3,7 +3,7 @@ use Rattle.std.proofs.Common.{◌≡◌, ◌∙◌, refl, sym, ap, subst, ℕ, i
 use Rattle.std.specs.Prelude.{⊤, ℤ, pos, is_none, is_some, Result, Ok, Err, IfOk, if◌then◌else◌}
 use Rattle.tk_clock.specs.declared.refusal.Refusal.{Refusal}
 use Rattle.tk_ntp.specs.declared.pulse.Pulse.{Pulse}
-use Rattle.tk_ntp.specs.Account.{IsBalanced, IsLeft, IsMarked}
+use Rattle.tk_ntp.specs.Account.{IsBalanced, IsLeft, IsConsistent}
 use Rattle.tk_ntp.specs.Advance.{IsAdvanced, second_begun_at}
 use Rattle.tk_ntp.specs.Asked.{accounted_if, steered_if}
 use Rattle.tk_ntp.specs.Bits.{has, sta_ppstime}
@@ -16,11 +16,11 @@ use Rattle.tk_ntp.specs.Steady.{IsSinceAfter, IsSmallIn, IsSmallOrSame}
 use Rattle.tk_ntp.specs.Steering.{commands}
 use Rattle.tk_ntp.specs.SteeredClock.{SteeredClock, rate_in_force, reading_refusal, steered_at}
 use Rattle.tk_ntp.proofs.Accepted.{ahead_at, awake_at}
-use Rattle.tk_ntp.proofs.Account.{awake-after, marked-after, never}
+use Rattle.tk_ntp.proofs.Account.{awake-after, consistent-after, never}
 use Rattle.tk_ntp.proofs.Called.{kept-since, left-small}
 use Rattle.tk_ntp.proofs.History.{offset_kept}
 use Rattle.tk_ntp.proofs.Left.{accounted-left, same-left, IsSameRate}
-use Rattle.tk_ntp.proofs.Marked.{at_mark, marked_made, none_before, steered-made}
+use Rattle.tk_ntp.proofs.Consistent.{at_mark, consistent_made, none_before, steered-made}
 use Rattle.tk_ntp.proofs.Often.{none_left}
 use Rattle.tk_ntp.proofs.Passed.{still_ahead}
 use Rattle.tk_ntp.proofs.Settled.{settled, IsMoved}
@@ -39,17 +39,17 @@ pulse-moved true reading pulse s =
 pulse-moved false reading pulse s = inl (refl, refl)
 
 pulse-left : (does : Bool) (reading : ℕ) (pulse : Pulse) (s : SteeredClock) →
-    let after = taken does reading pulse s in IsLeft false after.mark after.steering.lag s
+    let after = taken does reading pulse s in IsLeft false after.last_account after.steering.lag s
 pulse-left true reading pulse s = accounted-left reading s
 pulse-left false reading pulse s = same-left s (taken false reading pulse s) refl refl
 
-pulse-marked : (does : Bool) (reading : ℕ) (pulse : Pulse) (s : SteeredClock) → IsMarked s →
-    IsMarked (at_mark reading s) → IsMarked (taken does reading pulse s)
-pulse-marked true reading pulse s marked before =
+pulse-consistent : (does : Bool) (reading : ℕ) (pulse : Pulse) (s : SteeredClock) → IsConsistent s →
+    IsConsistent (at_mark reading s) → IsConsistent (taken does reading pulse s)
+pulse-consistent true reading pulse s consistent before =
     let begun = with_pulsed pulse (accounted_if true reading s) in
-    marked_made reading s (steered_at reading begun) refl refl (steered-made reading begun) before
-pulse-marked false reading pulse s marked before =
-    record { ahead = marked.ahead; asleep = marked.asleep; nearer = marked.nearer }
+    consistent_made reading s (steered_at reading begun) refl refl (steered-made reading begun) before
+pulse-consistent false reading pulse s consistent before =
+    record { ahead = consistent.ahead; asleep = consistent.asleep; nearer = consistent.nearer }
 
 -- a pulse without a frequency leaves the length of the second
 correction-length : (test : Bool) (offset adjust : ℤ) (ntp : Ntp) →
@@ -116,12 +116,12 @@ module _ (reading : ℕ) (pulse : Pulse) (s : SteeredClock) where
   pulsed-holds P after result (Some r) is h same does = subst P (sym h.1) same
 
   pulse-balanced : (advanced : SteeredClock) → reading_refusal reading s ≡ None →
-      IsAdvanced reading s advanced → IsMarked s →
+      IsAdvanced reading s advanced → IsConsistent s →
       IsBalanced (λ _. false) reading s (after_pulse reading pulse advanced)
-  pulse-balanced advanced accepted chain marked =
+  pulse-balanced advanced accepted chain consistent =
       let does = has_frequency pulse in
       inr (settled (λ _. false) reading s advanced (after_pulse reading pulse advanced) accepted
-      chain marked (pulse-moved does reading pulse advanced)
+      chain consistent (pulse-moved does reading pulse advanced)
       (pulse-left does reading pulse advanced))
 
   pulse-small : (advanced : SteeredClock) → IsAdvanced reading s advanced →
@@ -136,22 +136,22 @@ module _ (reading : ℕ) (pulse : Pulse) (s : SteeredClock) where
   }
 
   pulse-stays : (advanced : SteeredClock) → reading_refusal reading s ≡ None →
-      IsAdvanced reading s advanced → IsMarked s → IsMarked (after_pulse reading pulse advanced)
-  pulse-stays advanced accepted chain marked =
+      IsAdvanced reading s advanced → IsConsistent s → IsConsistent (after_pulse reading pulse advanced)
+  pulse-stays advanced accepted chain consistent =
       let awake = awake_at reading s accepted in
-      pulse-marked (has_frequency pulse) reading pulse advanced
-      (marked-after reading s advanced chain marked awake)
+      pulse-consistent (has_frequency pulse) reading pulse advanced
+      (consistent-after reading s advanced chain consistent awake)
       (none_before reading advanced (none_left second_begun_at reading s advanced chain)
       (still_ahead reading s advanced chain (ahead_at reading s accepted))
       (awake-after reading s advanced chain awake))
 
   -- the accounts add up to what the clocks were asked for
   pub pulsed_sum : (after : SteeredClock) (result : Result ⊤ Refusal) →
-      IsPulsed reading pulse s result after → IsMarked s →
+      IsPulsed reading pulse s result after → IsConsistent s →
       IsBalanced (λ _. false) reading s after
-  pulsed_sum after result h marked =
+  pulsed_sum after result h consistent =
       pulsed-holds (IsBalanced (λ _. false) reading s) after result (reading_refusal reading s) refl
-      h (inl refl) (λ advanced accepted chain. pulse-balanced advanced accepted chain marked)
+      h (inl refl) (λ advanced accepted chain. pulse-balanced advanced accepted chain consistent)
 
   -- the lag stays small
   pub pulsed_small : (after : SteeredClock) (result : Result ⊤ Refusal) →
@@ -163,11 +163,11 @@ module _ (reading : ℕ) (pulse : Pulse) (s : SteeredClock) where
       (λ advanced accepted chain. inr (pulse-small advanced chain))
 
   -- the last account stays after the last command, and before the next second
-  pub pulsed_marked : (after : SteeredClock) (result : Result ⊤ Refusal) →
-      IsPulsed reading pulse s result after → IsMarked s → IsMarked after
-  pulsed_marked after result h marked =
-      pulsed-holds IsMarked after result (reading_refusal reading s) refl h marked
-      (λ advanced accepted chain. pulse-stays advanced accepted chain marked)
+  pub pulsed_consistent : (after : SteeredClock) (result : Result ⊤ Refusal) →
+      IsPulsed reading pulse s result after → IsConsistent s → IsConsistent after
+  pulsed_consistent after result h consistent =
+      pulsed-holds IsConsistent after result (reading_refusal reading s) refl h consistent
+      (λ advanced accepted chain. pulse-stays advanced accepted chain consistent)
 
 taken-tai : (does : Bool) (reading : ℕ) (pulse : Pulse) (s : SteeredClock) →
     IsTaiSame reading s.clock (taken does reading pulse s).clock

@@ -101,22 +101,22 @@ pub counted : (next after drop steps before : ℕ) → next < clock_end → next
 counted next after drop steps before low h k = omega arith
 
 -- a second that begins leaves fewer of them, after any account
-begun-fewer : (reading mark : ℕ) (lag : ℤ) (steered : SteeredClock) → steered.next < clock_end →
+begun-fewer : (reading last_account : ℕ) (lag : ℤ) (steered : SteeredClock) → steered.next < clock_end →
     let ntp = steered.steering.ntp in
     let begun : SteeredClock = record steered {
       steering = record { ntp = begun_of ntp steered.next; lag = lag };
       next = steered.next + 1;
-      mark = mark;
+      last_account = last_account;
     } in
     seconds_left (steered_at reading (leapt reading (leap_at ntp steered.next) begun))
     < seconds_left steered
-begun-fewer reading mark lag steered low =
+begun-fewer reading last_account lag steered low =
     let ntp = steered.steering.ntp in
     let leap = leap_at ntp steered.next in
     let begun : SteeredClock = record steered {
       steering = record { ntp = begun_of ntp steered.next; lag = lag };
       next = steered.next + 1;
-      mark = mark;
+      last_account = last_account;
     } in
     rw (leapt-steering reading leap begun)
     (counted steered.next (leapt reading leap begun).next (back leap)

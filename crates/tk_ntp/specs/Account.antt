@@ -26,11 +26,11 @@ units_at reading clock =
 -- the lag
 abbrev pub owed : SteeredClock → ℤ
 owed steered =
-    pos (units_at steered.mark steered.clock) *ℤ pos nominal +ℤ steered.steering.lag
+    pos (units_at steered.last_account steered.clock) *ℤ pos nominal +ℤ steered.steering.lag
 
 -- the cycles since the last account
 abbrev pub cycles_to : ℕ → SteeredClock → ℕ
-cycles_to reading steered = gap steered.clock.base.counter steered.mark reading
+cycles_to reading steered = gap steered.clock.base.counter steered.last_account reading
 
 -- what these cycles should add at the length of the present second
 abbrev pub asked_to : ℕ → SteeredClock → ℤ
@@ -80,14 +80,14 @@ AreKept reading before after begun =
     reading before after begun
 
 -- where the last account is
-pub record IsMarked (steered : SteeredClock) : Type 0 where
+pub record IsConsistent (steered : SteeredClock) : Type 0 where
   -- it is at most half the counter's range after the last command, and at it while asleep
-  pub ahead : distance steered.clock.base steered.mark ≤ half steered.clock.base.counter
-  pub asleep : steered.clock.base.asleep ≡ true → steered.mark ≡ steered.clock.base.last
+  pub ahead : distance steered.clock.base steered.last_account ≤ half steered.clock.base.counter
+  pub asleep : steered.clock.base.asleep ≡ true → steered.last_account ≡ steered.clock.base.last
   -- REALTIME reaches the next second at no reading before it
   pub nearer : (at : ℕ) → IsAhead steered.clock.base at →
       HasReached steered.clock.base Realtime (nanoseconds (second_time steered.next)) at →
-      distance steered.clock.base steered.mark ≤ distance steered.clock.base at
+      distance steered.clock.base steered.last_account ≤ distance steered.clock.base at
 
 -- what was asked for is what was given, up to the lag and to what was dropped, as seconds begin
 pub record IsAccounted (reading : ℕ) (before after : SteeredClock) : Type 0 where
@@ -96,7 +96,7 @@ pub record IsAccounted (reading : ℕ) (before after : SteeredClock) : Type 0 wh
       owed before +ℤ asked_of reading before after begun
       ≡ owed after +ℤ dropped_of reading before after begun
   pub kept : AreKept reading before after begun
-  pub marked : IsMarked after
+  pub consistent : IsConsistent after
 
 -- the lag at the account of a call. If the call sets REALTIME, no lag is left; otherwise nothing is
 -- dropped while the lag stays within its bound
@@ -113,12 +113,12 @@ pub record IsBalancedIn (sets : SteeredClock → Bool) (reading : ℕ)
   pub begun : IsAdvanced reading before advanced
   pub sum :
       owed before
-      +ℤ (asked_of reading before advanced begun +ℤ asked_to after.mark advanced)
+      +ℤ (asked_of reading before advanced begun +ℤ asked_to after.last_account advanced)
       ≡ owed after
       +ℤ (dropped_of reading before advanced begun
-      +ℤ dropped_to after.mark after.steering.lag advanced)
+      +ℤ dropped_to after.last_account after.steering.lag advanced)
   pub kept : AreKept reading before advanced begun
-  pub left : IsLeft (sets advanced) after.mark after.steering.lag advanced
+  pub left : IsLeft (sets advanced) after.last_account after.steering.lag advanced
 
 -- a call changes nothing, or its accounts add up
 abbrev pub IsBalanced : (SteeredClock → Bool) → ℕ → SteeredClock → SteeredClock → Type 0

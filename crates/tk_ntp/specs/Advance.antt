@@ -55,10 +55,10 @@ with_next_second reading steered =
     let base = steered.clock.base in
     record steered {
       steering =
-          second_begun base.counter base.mult (gap base.counter steered.mark reading) steered.next
+          second_begun base.counter base.mult (gap base.counter steered.last_account reading) steered.next
           steered.steering;
       next = steered.next + 1;
-      mark = reading;
+      last_account = reading;
     }
 
 -- the state after the next second of REALTIME has begun at a reading: its leap is made, and the

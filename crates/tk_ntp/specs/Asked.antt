@@ -32,7 +32,7 @@ second_after clock = unsigned_abs (base_value clock.base Realtime clock.base.las
 abbrev pub restarted : ℕ → State → SteeredClock → SteeredClock
 restarted reading clock steered =
     steered_at reading
-    (record steered { clock = clock; next = second_after clock; mark = reading })
+    (record steered { clock = clock; next = second_after clock; last_account = reading })
 
 -- the state after the discipline has forgotten what steers the clocks (ntp_clear)
 abbrev pub forgotten : SteeredClock → SteeredClock

@@ -40,7 +40,7 @@ turned_over reading counter first clock steered =
         lag = lag_over steered.clock.base.counter counter accounted.steering.lag;
       };
       next = steered.next;
-      mark = first;
+      last_account = first;
     }
 
 -- the state after a change

@@ -9,7 +9,7 @@ use Rattle.tk_ntp.specs.SteeredClock.{SteeredClock}
 pub record Course : Type 0 where
   pub steering : Steered
   pub next : ℕ
-  pub mark : ℕ
+  pub last_account : ℕ
 
 -- clocks with the course of their discipline
 abbrev pub seen : State → Course → SteeredClock
@@ -17,7 +17,7 @@ seen clock course = record {
   clock = clock;
   steering = course.steering;
   next = course.next;
-  mark = course.mark;
+  last_account = course.last_account;
 }
 
 -- the course of the discipline of steered clocks
@@ -25,5 +25,5 @@ abbrev pub course_of : SteeredClock → Course
 course_of steered = record {
   steering = steered.steering;
   next = steered.next;
-  mark = steered.mark;
+  last_account = steered.last_account;
 }

@@ -26,7 +26,7 @@ IsToSecond cycles steered =
 -- for `early` cycles after it
 pub record IsInSecond (early : ℕ) (steered : SteeredClock) : Type 0 where
   pub awake : steered.clock.base.asleep ≡ false
-  pub mark : steered.mark ≡ steered.clock.base.last
+  pub last_account : steered.last_account ≡ steered.clock.base.last
   pub ahead : IsEarlyFor early steered
 
 -- what the countdown of an owner promises: `early` cycles without a second of the discipline; 0

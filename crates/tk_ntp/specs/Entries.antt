@@ -79,7 +79,7 @@ second_entries is_late who reading at steered =
 abbrev pub restart_entries : ℕ → ℕ → State → SteeredClock → List Entry
 restart_entries who reading clock steered =
     rate_entries who reading
-    (record steered { clock = clock; next = second_after clock; mark = reading })
+    (record steered { clock = clock; next = second_after clock; last_account = reading })
 
 -- the entries that the discipline makes after an accepted command, which left the clocks as `clock`
 abbrev pub entries_after : ℕ → ℕ → Command → State → SteeredClock → List Entry

@@ -56,17 +56,17 @@ IsOneBegunAlone reading before result after =
 -- after it
 abbrev pub IsAskedAlone : Timex → SteeredClock → Result Reply Refusal → SteeredClock → Type 0
 IsAskedAlone request before result after =
-    let real = real_at before.mark before.clock in
+    let real = real_at before.last_account before.clock in
     MatchResult result
-    (λ reply. (real_refusal before.mark before.clock ≡ None)
+    (λ reply. (real_refusal before.last_account before.clock ≡ None)
     × (reply ≡ reply_to request real (tai_of_clock before.clock) before.steering.ntp)
     × (after ≡ with_asked request real before))
-    (λ refusal. (real_refusal before.mark before.clock ≡ Some refusal) × (after ≡ before))
+    (λ refusal. (real_refusal before.last_account before.clock ≡ Some refusal) × (after ≡ before))
 
 -- a reading is no nearer to the last command than the last account
 abbrev pub IsNoEarlier : ℕ → SteeredClock → Type 0
 IsNoEarlier reading steered =
-    distance steered.clock.base steered.mark ≤ distance steered.clock.base reading
+    distance steered.clock.base steered.last_account ≤ distance steered.clock.base reading
 
 -- what was asked for up to an account at a reading is what was given, up to the lag and to what the
 -- account drops: nothing while the lag stays within its bound

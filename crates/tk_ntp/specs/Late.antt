@@ -10,7 +10,7 @@ use Rattle.tk_ntp.specs.SteeredClock.{SteeredClock, accounted_to, steered_at}
 abbrev pub late_start : ℕ → SteeredClock → ℕ
 late_start at steered =
     let counter = steered.clock.base.counter in
-    if nat_lt (half counter) (gap counter steered.mark at) then steered.mark else at
+    if nat_lt (half counter) (gap counter steered.last_account at) then steered.last_account else at
 
 -- the state as the next second begins late, before any command: the lag is accounted for up to the
 -- reading of the commands

@@ -56,7 +56,7 @@ abbrev pub course_numbers : Course → SteeredNumbers
 course_numbers course = record {
   steering = steering_numbers course.steering;
   next = course.next;
-  mark = course.mark;
+  last_account = course.last_account;
 }
 
 -- steered clocks, without their clocks

@@ -90,7 +90,7 @@ steered_of clock numbers = record {
   clock = clock;
   steering = steering_of numbers.steering;
   next = numbers.next;
-  mark = numbers.mark;
+  last_account = numbers.last_account;
 }
 
 -- these clocks, steered by the discipline in the numbers, or the first part of them that isn't in

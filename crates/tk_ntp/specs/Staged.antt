@@ -21,7 +21,7 @@ pub record IsEarly (steered : SteeredClock) (reading : ℕ) : Type 0 where
 -- a reading is not behind the last account
 abbrev pub IsInOrder : SteeredClock → ℕ → Type 0
 IsInOrder steered reading =
-    order_refusal steered.clock.base.counter steered.mark reading Update ≡ None
+    order_refusal steered.clock.base.counter steered.last_account reading Update ≡ None
 
 -- no second is due up to a reading, which is not behind the last account
 pub record IsSettled (steered : SteeredClock) (reading : ℕ) : Type 0 where

@@ -74,14 +74,14 @@ pub record StaysSmall (reading : ℕ) (before after : SteeredClock) : Type 0 whe
 -- a call of clocks that got their rate while the lag was small: the lag is small at its account
 abbrev pub IsSmallAfter : SteeredClock → SteeredClock → Type 0
 IsSmallAfter before after = (chosen : ℤ) (cycles : ℕ) → IsSince chosen cycles before →
-    IsSecondLong before.clock.base.counter (cycles + cycles_to after.mark before) →
+    IsSecondLong before.clock.base.counter (cycles + cycles_to after.last_account before) →
     IsSmall before.clock.base.counter after.steering.lag
 
 -- a call that keeps the rate of the clocks, and the length of the second
 abbrev pub IsSinceAfter : SteeredClock → SteeredClock → Type 0
 IsSinceAfter before after = (chosen : ℤ) (cycles : ℕ) → IsSince chosen cycles before →
-    IsSecondLong before.clock.base.counter (cycles + cycles_to after.mark before) →
-    IsSince chosen (cycles + cycles_to after.mark before) after
+    IsSecondLong before.clock.base.counter (cycles + cycles_to after.last_account before) →
+    IsSince chosen (cycles + cycles_to after.last_account before) after
 
 -- the lag stays small in a call: as the seconds up to its reading begin, and at the account of the
 -- call itself. `keeps` says whether the call leaves the rate as it is

@@ -24,7 +24,7 @@ pub record SteeredClock : Type 0 where
   -- the second of REALTIME that begins next
   pub next : ℕ
   -- the reading up to which the lag is accounted for
-  pub mark : ℕ
+  pub last_account : ℕ
 
 -- why no discipline can be made: `hz` is not 1 to 1024
 abbrev pub hz_refusal : ℕ → Option Refusal
@@ -41,7 +41,7 @@ steered_by ntp reading real clock = record {
   clock = clock;
   steering = record { ntp = ntp; lag = pos 0 };
   next = unsigned_abs real.sec + 1;
-  mark = reading;
+  last_account = reading;
 }
 
 -- newly opened clocks with a fresh discipline
@@ -54,7 +54,7 @@ steered_opened counter reading real hz =
 abbrev pub reading_refusal : ℕ → SteeredClock → Option Refusal
 reading_refusal reading steered =
     first_of (state_refusal steered.clock reading Update)
-    (order_refusal steered.clock.base.counter steered.mark reading Update)
+    (order_refusal steered.clock.base.counter steered.last_account reading Update)
 
 -- the lag is accounted for up to a reading, at the multiplier and the length in force
 abbrev pub accounted_to : ℕ → SteeredClock → SteeredClock
@@ -62,8 +62,8 @@ accounted_to reading steered =
     let base = steered.clock.base in
     record steered {
       steering =
-          accounted base.counter base.mult (gap base.counter steered.mark reading) steered.steering;
-      mark = reading;
+          accounted base.counter base.mult (gap base.counter steered.last_account reading) steered.steering;
+      last_account = reading;
     }
 
 -- the clocks are taken over from an owner who has updated them

@@ -36,7 +36,7 @@ pub struct Course {
     /// Contains the second of REALTIME that begins next, in seconds since 1970.
     pub(crate) next: u64,
     /// Contains the reading up to which the lag is accounted for, in cycles.
-    pub(crate) mark: u64,
+    pub(crate) last_account: u64,
 }
 
 impl Model for Course {
@@ -49,7 +49,7 @@ impl Model for Course {
     ghost view = { λ a. record {
       steering = a.steering;
       next = a.next;
-      mark = a.mark;
+      last_account = a.last_account;
     } };
 
     ghost invariant = { λ a. a.next ≤ clock_end + 1 };
@@ -57,7 +57,7 @@ impl Model for Course {
     ghost inverse = { λ s. record {
       steering = s.steering;
       next = s.next;
-      mark = s.mark;
+      last_account = s.last_account;
     } };
 }
 
@@ -75,7 +75,7 @@ impl Course {
     ghost use Rattle.tk_ntp.specs.Steering.{commands};
     ghost use Rattle.tk_ntp.specs.SteeredClock.{accounted_to, rate_in_force};
 
-    /// Returns the numbers that the discipline, the lag, the next second and the mark are kept in.
+    /// Returns the numbers that the discipline, the lag, the next second and the last account are kept in.
     pub fn numbers(&self) -> SteeredNumbers
         ensures value { result ≡ course_numbers self.now }
         ensures back { (clock : State) → let steered = seen clock self.now in
@@ -84,7 +84,7 @@ impl Course {
         SteeredNumbers {
             steering: self.steering.numbers(),
             next: self.next,
-            mark: self.mark,
+            last_account: self.last_account,
         }
     }
 
@@ -116,19 +116,19 @@ impl Course {
     }
 
     /// Returns the reading up to which the lag is accounted for, in cycles.
-    pub(crate) fn mark(&self) -> u64
-        ensures { result ≡ self.now.mark }
+    pub(crate) fn last_account(&self) -> u64
+        ensures { result ≡ self.now.last_account }
     {
-        self.mark
+        self.last_account
     }
 
     /// Returns whether a reading is behind the one up to which the lag is accounted for.
     pub(crate) fn is_behind(&self, clock: &Clock, reading: u64) -> bool
         ensures { let counter = clock.now.base.counter in
-            result ≡ nat_lt (half counter) (gap counter self.now.mark reading) }
+            result ≡ nat_lt (half counter) (gap counter self.now.last_account reading) }
     {
         let desc = clock.snapshot(0).desc();
-        desc.is_behind(desc.gap(self.mark, reading))
+        desc.is_behind(desc.gap(self.last_account, reading))
     }
 
     /// Accounts for the cycles up to a reading, in cycles.
@@ -137,9 +137,9 @@ impl Course {
         ensures { seen clock.now self.new ≡ accounted_to reading (seen clock.now self.old) }
     {
         let now = clock.snapshot(0);
-        let cycles = now.desc().gap(self.mark, reading);
+        let cycles = now.desc().gap(self.last_account, reading);
         self.steering.account(now.desc(), now.mult(), cycles);
-        self.mark = reading;
+        self.last_account = reading;
     }
 
     /// Returns the change that gives the clocks the rate that the present second needs: a command

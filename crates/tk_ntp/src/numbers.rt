@@ -89,7 +89,7 @@ pub struct SteeredNumbers {
     /// The second of REALTIME that begins next.
     pub next: u64,
     /// The reading up to which the lag is accounted for.
-    pub mark: u64,
+    pub last_account: u64,
 }
 
 impl LagNumbers {

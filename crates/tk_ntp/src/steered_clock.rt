@@ -39,7 +39,7 @@ impl Model for SteeredClock {
 
     ghost view = { λ a. seen a.clock a.course };
 
-    // `IsMarked` is no invariant: `from_numbers` takes any numbers, and the calls that follow a
+    // `IsConsistent` is no invariant: `from_numbers` takes any numbers, and the calls that follow a
     // shared keeper take any reading
     ghost inverse = { λ s. record { clock = s.clock; course = course_of s } };
 }
@@ -51,7 +51,7 @@ impl SteeredClock {
     ghost use Rattle.tk_clock.specs.Reach.{IsFirstReached, IsNeverReached};
     ghost use Rattle.tk_clock.specs.Time.{nanoseconds};
     ghost use Rattle.tk_counter.specs.Counter.{least_tick, greatest_tick};
-    ghost use Rattle.tk_ntp.specs.Account.{owed, IsMarked};
+    ghost use Rattle.tk_ntp.specs.Account.{owed, IsConsistent};
     ghost use Rattle.tk_ntp.specs.Change.{multiplier_at};
     ghost use Rattle.tk_ntp.specs.Course.{course_of, seen};
     ghost use Rattle.tk_ntp.specs.Ntp.{second_length};
@@ -80,7 +80,7 @@ impl SteeredClock {
             (λ steered. (steered_refusal desc reading real hz ≡ None)
             × (steered ≡ steered_opened desc reading real hz))
             (λ refusal. steered_refusal desc reading real hz ≡ Some refusal) }
-        ensures marked { IfOk result IsMarked }
+        ensures consistent { IfOk result IsConsistent }
         ensures nothing { IfOk result (λ steered. owed steered ≡ pos 0) }
     {
         let clock = Clock::open(desc, reading, real)?;
@@ -94,7 +94,7 @@ impl SteeredClock {
     fn fresh(clock: Clock, ntp: Discipline, reading: u64, real: Timespec) -> SteeredClock
         requires { unsigned_abs real.sec ≤ clock_end }
         ensures value { result ≡ steered_by ntp reading real clock }
-        ensures marked { reading ≡ clock.base.last → IsMarked result }
+        ensures consistent { reading ≡ clock.base.last → IsConsistent result }
         ensures owes { reading ≡ clock.base.last →
             owed result ≡ pos clock.base.amount *ℤ pos nominal }
     {
@@ -103,7 +103,7 @@ impl SteeredClock {
             course: Course {
                 steering: Steering::new(ntp),
                 next: real.sec.unsigned_abs() + 1,
-                mark: reading,
+                last_account: reading,
             },
         }
     }

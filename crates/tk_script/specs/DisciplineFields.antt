@@ -67,5 +67,5 @@ unfoldable pub numbers_of : List (List ℕ) → Result SteeredNumbers ScriptErro
 numbers_of fields = do
   steering ← steering_of fields
   next ← number_at 1 fields 32
-  mark ← number_at 1 fields 33
-  Ok (record { steering = steering; next = next; mark = mark })
+  last_account ← number_at 1 fields 33
+  Ok (record { steering = steering; next = next; last_account = last_account })

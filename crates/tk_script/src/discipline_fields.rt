@@ -7,7 +7,7 @@ use crate::record::Record;
 use crate::script_error::ScriptError;
 use tk_ntp::{DisciplineNumbers, LagNumbers, LeapNumbers, SteeredNumbers, SteeringNumbers};
 
-/// Parses the numbers of a discipline and its lag, the next second and the mark. They may be any
+/// Parses the numbers of a discipline and its lag, the next second and the last account. They may be any
 /// numbers.
 #[tactic(auto, unfolding(crate::specs::DisciplineFields::numbers_of))]
 pub(crate) fn read_numbers<R: Record>(fields: &R) -> Result<SteeredNumbers, ScriptError>
@@ -35,7 +35,7 @@ pub(crate) fn read_numbers<R: Record>(fields: &R) -> Result<SteeredNumbers, Scri
             },
         },
         next: number_at(1, fields, 32)?,
-        mark: number_at(1, fields, 33)?,
+        last_account: number_at(1, fields, 33)?,
     })
 }
 

@@ -49,9 +49,9 @@ pub reading-never : (journal : Journal) (reading : ℕ) (course : Course) →
     IsNever (reading_refusal reading (seen (state_of journal) course))
 reading-never journal reading course =
     first-never (state_refusal (state_of journal) reading Update)
-    (order_refusal (state_of journal).base.counter course.mark reading Update)
+    (order_refusal (state_of journal).base.counter course.last_account reading Update)
     (state-never journal reading Update)
-    (order-never (state_of journal).base.counter course.mark reading)
+    (order-never (state_of journal).base.counter course.last_account reading)
 
 faulty-if : (test : Bool) → IsNever (if test then Some Invalid else None)
 faulty-if true = λ e. cc e

@@ -19,7 +19,7 @@ clock_words session =
     ++ (counter.bits ∷ counter.mult ∷ counter.shift
     ∷ cast_unsigned w64 clock.frequency ∷ cast_unsigned w64 clock.tick ∷ [])
 
--- the words of the numbers that a discipline, its lag, the next second and the mark are kept in:
+-- the words of the numbers that a discipline, its lag, the next second and the last account are kept in:
 -- those with a sign in two's complement
 abbrev pub number_words : SteeredNumbers → List ℕ
 number_words numbers =
@@ -28,7 +28,7 @@ number_words numbers =
     ∷ cast_unsigned w64 ntp.offset ∷ ntp.constant ∷ ntp.maxerror ∷ ntp.esterror ∷ ntp.tick
     ∷ cast_unsigned w64 ntp.frequency ∷ ntp.reftime ∷ cast_unsigned w64 ntp.adjust
     ∷ cast_unsigned w64 ntp.phase ∷ numbers.steering.lag.high ∷ numbers.steering.lag.low
-    ∷ numbers.next ∷ numbers.mark ∷ []
+    ∷ numbers.next ∷ numbers.last_account ∷ []
 
 -- the words of a session's clocks: none before the first record, 15 without a discipline, and 33
 -- with one

@@ -31,6 +31,6 @@ pub(crate) fn number_words(numbers: &SteeredNumbers) -> [u64; NUMBER_WORDS]
         lag.high,
         lag.low,
         numbers.next,
-        numbers.mark,
+        numbers.last_account,
     ]
 }

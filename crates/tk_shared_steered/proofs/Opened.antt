@@ -143,8 +143,8 @@ open_in_step hz old new clock count h =
           ap (λ (s : SteeredClock). s.clock) h.clock_is
           ∙ state_of-followed_by journal before.clock old.id h.reading Update refl accepted
           ∙ ap state_of (sym h.seen);
-      mark =
-          ap (λ (s : SteeredClock). s.mark) h.clock_is
+      last_account =
+          ap (λ (s : SteeredClock). s.last_account) h.clock_is
           ∙ sym (ap (λ (s : SteeredClock). s.clock.base.last) h.clock_is
           ∙ effect-last before.clock h.reading Update);
     }

@@ -47,10 +47,10 @@ follows refusal next before after (Err stated) h none = absurd (cc (sym none ∙
 
 -- no reading is nearer to the last command than an account there
 pub no_earlier : (steered : SteeredClock) (reading : ℕ) →
-    steered.mark ≡ steered.clock.base.last → IsNoEarlier reading steered
+    steered.last_account ≡ steered.clock.base.last → IsNoEarlier reading steered
 no_earlier steered reading is =
     let base = steered.clock.base in
-    subst (λ (mark : ℕ). gap base.counter base.last mark ≤ distance base reading) (sym is)
+    subst (λ (last_account : ℕ). gap base.counter base.last last_account ≤ distance base reading) (sym is)
     (rw (none_here base.counter base.last) (omega arith))
 
 pub tick_plain : (tick : Option ℤ) →

@@ -46,16 +46,16 @@ taken old new cmd reading follow s result step same given h count owed =
 pub in_step : (old new : Owner) (cmd : Command) (reading : ℕ)
     (follow : SteeredClock → SteeredClock) (s : SteeredClock) → IsInStep old →
     IsTaken cmd reading follow s old new →
-    (follow s).clock ≡ effect old.clock.clock reading cmd → (follow s).mark ≡ reading → IsInStep new
-in_step old new cmd reading follow s step h is mark =
+    (follow s).clock ≡ effect old.clock.clock reading cmd → (follow s).last_account ≡ reading → IsInStep new
+in_step old new cmd reading follow s step h is last_account =
     let clock : new.clock.clock ≡ effect old.clock.clock reading cmd =
     ap (λ (s : SteeredClock). s.clock) h.clock ∙ is in
     record {
       clocks =
           clock
           ∙ runs_on old.clock.clock cmd reading old.caller new.caller step.clocks h.given;
-      mark = ap (λ (s : SteeredClock). s.mark) h.clock
-          ∙ mark
+      last_account = ap (λ (s : SteeredClock). s.last_account) h.clock
+          ∙ last_account
           ∙ sym (ap (λ (c : State). c.base.last) clock ∙ effect-last old.clock.clock reading cmd);
     }
 
@@ -66,8 +66,8 @@ pub stays_in_step : (cmd : Command) (fault : SteeringFault) (old new : Owner) �
 stays_in_step cmd (Refused refusal) old new known step h clock count = λ following. record {
   clocks =
       ap (λ (s : SteeredClock). s.clock) clock ∙ step.clocks ∙ ap state_of (sym h.0);
-  mark =
-      ap (λ (s : SteeredClock). s.mark) clock ∙ step.mark
+  last_account =
+      ap (λ (s : SteeredClock). s.last_account) clock ∙ step.last_account
       ∙ sym (ap (λ (s : SteeredClock). s.clock.base.last) clock);
 }
 stays_in_step cmd Foreign old new known step h clock count = λ following.
@@ -148,11 +148,11 @@ same_clock (Some leap) reading before s h = ap (λ (n : SteeredClock). n.clock) 
 
 -- the update's reading is in order after it
 pub update_order : (leap : Option Leap) (reading : ℕ) (before s : SteeredClock) →
-    before.mark ≡ before.clock.base.last → IsOneBegunAlone reading before leap s →
+    before.last_account ≡ before.clock.base.last → IsOneBegunAlone reading before leap s →
     IsNoEarlier reading s
-update_order None reading before s mark h =
-    subst (IsNoEarlier reading) (sym h.1) (no_earlier before reading mark)
-update_order (Some leap) reading before s mark h =
+update_order None reading before s last_account h =
+    subst (IsNoEarlier reading) (sym h.1) (no_earlier before reading last_account)
+update_order (Some leap) reading before s last_account h =
     subst (IsNoEarlier reading) (sym h.3) h.1.until
 
 pub updated : (leap : Option Leap) (reading : ℕ) (here new : Owner) (s : SteeredClock) →
@@ -168,7 +168,7 @@ updated (Some leap) reading here new s step h t = (
   h.0,
   h.1,
   h.2,
-  begun_owed h.0 here.clock (no_earlier here.clock h.0 step.mark),
+  begun_owed h.0 here.clock (no_earlier here.clock h.0 step.last_account),
   subst (λ (n : SteeredClock). IsTaken Update reading (followed reading Update) n here new) h.3 t,
 )
 

@@ -27,7 +27,7 @@ IsFollowing owner = length owner.caller.seen.entries ≡ owner.count
 -- its last command
 pub record IsInStep (owner : Owner) : Type 0 where
   pub clocks : owner.clock.clock ≡ state_of owner.caller.seen
-  pub mark : owner.clock.mark ≡ owner.clock.clock.base.last
+  pub last_account : owner.clock.last_account ≡ owner.clock.clock.base.last
 
 -- they are, if the discipline has followed all commands that the caller has seen
 abbrev pub IsInStepIfKnown : Owner → Type 0

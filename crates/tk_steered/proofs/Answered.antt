@@ -11,7 +11,7 @@ use Rattle.tk_clock.specs.State.{State}
 use Rattle.tk_keeper.specs.Room.{HasAdded, HasRoom, IsShort, keeper_state}
 use Rattle.tk_ntp.specs.declared.reply.Reply.{Reply}
 use Rattle.tk_ntp.specs.declared.timex.Timex.{Timex}
-use Rattle.tk_ntp.specs.Account.{IsMarked}
+use Rattle.tk_ntp.specs.Account.{IsConsistent}
 use Rattle.tk_ntp.specs.Advance.{IsAdvanced, second_begun_at}
 use Rattle.tk_ntp.specs.Applied.{IsApplied, IsPlain, request_of, without_reply}
 use Rattle.tk_ntp.specs.Asked.{IsAnswered, IsAsked, IsCommanded, first_fault}
@@ -105,7 +105,7 @@ module _ (who reading : ℕ) (before after : SteeredKeeper) where
     short = is_short who reading second_most after.keeper refusal short;
     rest =
         subst (IsOnTheWay second_begun_at reading (steered_of before)) (sym same) (λ there h. h);
-    marked = λ marked. subst IsMarked (sym same) marked;
+    consistent = λ consistent. subst IsConsistent (sym same) consistent;
   }
 
   pub same_there : keeper_state after.keeper ≡ keeper_state before.keeper →

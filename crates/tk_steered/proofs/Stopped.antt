@@ -10,7 +10,7 @@ use Rattle.tk_clock.specs.State.{State, base_value}
 use Rattle.tk_clock.specs.Time.{nanoseconds}
 use Rattle.tk_keeper.specs.Keeper.{Keeper}
 use Rattle.tk_keeper.specs.Room.{HasAdded, HasRoom, IsFull, IsOut, IsShort, keeper_state}
-use Rattle.tk_ntp.specs.Account.{IsMarked}
+use Rattle.tk_ntp.specs.Account.{IsConsistent}
 use Rattle.tk_ntp.specs.Advance.{Begins as BeginsOne, IsAdvancedBy, IsDue, second_begun_at, second_time}
 use Rattle.tk_ntp.specs.Course.{Course, seen}
 use Rattle.tk_ntp.specs.Entries.{second_begun}
@@ -19,7 +19,7 @@ use Rattle.tk_ntp.specs.SteeredClock.{SteeredClock, reading_refusal}
 use Rattle.tk_ntp.proofs.Accepted.{awake_at}
 use Rattle.tk_ntp.proofs.Account.{never, order}
 use Rattle.tk_ntp.proofs.Made.{second-made}
-use Rattle.tk_ntp.proofs.Marked.{marked_at_last}
+use Rattle.tk_ntp.proofs.Consistent.{consistent_at_last}
 use Rattle.tk_ntp.proofs.SeenBy.{same_seen}
 use Rattle.tk_steered.specs.Kept.{IsAdvancedTo, SteeredKeeper, steered_of}
 use Rattle.tk_steered.specs.Stopped.{HasStopped, IsOnTheWay}
@@ -44,36 +44,36 @@ module _ (who reading : ℕ) where
         | inr no_less ↦ no_less
       ]
 
-  second-marked : (at : ℕ) (s : SteeredClock) → IsDue s reading at →
-      s.clock.base.asleep ≡ false → IsMarked (second_begun_at at s)
-  second-marked at s due awake =
+  second-consistent : (at : ℕ) (s : SteeredClock) → IsDue s reading at →
+      s.clock.base.asleep ≡ false → IsConsistent (second_begun_at at s)
+  second-consistent at s due awake =
       let end = second_begun_at at s in
       let made = second-made at s in
       let goal : State → ℕ → ℕ → Type 0 = λ clock sec m.
-      IsMarked (record end { clock = clock; next = sec; mark = m }) in
+      IsConsistent (record end { clock = clock; next = sec; last_account = m }) in
       let there : goal s.clock (s.next + 1) at = record {
         ahead = due.first.ahead.1;
         asleep = λ is. absurd (never (sym is ∙ awake));
         nearer = λ other ahead reached. following s at other due ahead reached;
       } in
-      elim made.same as (λ _. IsMarked end) [
-        | inl e ↦ subst (λ (clock : State). goal clock end.next end.mark) (sym e.0)
-            (subst (λ (sec : ℕ). goal s.clock sec end.mark) (sym e.1)
-            (subst (λ (m : ℕ). goal s.clock (s.next + 1) m) (sym made.mark) there))
-        | inr e ↦ marked_at_last end (made.mark ∙ sym e)
+      elim made.same as (λ _. IsConsistent end) [
+        | inl e ↦ subst (λ (clock : State). goal clock end.next end.last_account) (sym e.0)
+            (subst (λ (sec : ℕ). goal s.clock sec end.last_account) (sym e.1)
+            (subst (λ (m : ℕ). goal s.clock (s.next + 1) m) (sym made.last_account) there))
+        | inr e ↦ consistent_at_last end (made.last_account ∙ sym e)
       ]
 
-  begun-marked : (a : Keeper) (before : Course) (b : Keeper) (after : Course) →
+  begun-consistent : (a : Keeper) (before : Course) (b : Keeper) (after : Course) →
       HasBegun keeper_state HasAdded HasRoom IsShort false who reading a before b after →
-      (keeper_state a).base.asleep ≡ false → IsMarked (seen (keeper_state a) before) →
-      IsMarked (seen (keeper_state b) after)
-  begun-marked start from end to (Still a course) awake marked = marked
-  begun-marked start from last to
-      (Begins a ready b end before middle after at due room is given rest) awake marked =
+      (keeper_state a).base.asleep ≡ false → IsConsistent (seen (keeper_state a) before) →
+      IsConsistent (seen (keeper_state b) after)
+  begun-consistent start from end to (Still a course) awake consistent = consistent
+  begun-consistent start from last to
+      (Begins a ready b end before middle after at due room is given rest) awake consistent =
       let s = seen (keeper_state a) before in
-      begun-marked b middle end after rest
+      begun-consistent b middle end after rest
       (ap (λ (t : SteeredClock). t.clock.base.asleep) is ∙ (second-made at s).asleep ∙ awake)
-      (subst IsMarked (sym is) (second-marked at s due awake))
+      (subst IsConsistent (sym is) (second-consistent at s due awake))
 
   begun-rest : (is_late : Bool) (a : Keeper) (before : Course) (b : Keeper) (after : Course) →
       HasBegun keeper_state HasAdded HasRoom IsShort is_late who reading a before b after →
@@ -119,14 +119,14 @@ module _ (who reading : ℕ) where
       before.course result after.keeper after.course refl h
 
   -- the last account stays after the last command, and before the next second
-  pub advanced_marked : (before after : SteeredKeeper) (result : Result ⊤ Refusal) →
-      IsAdvancedTo false who reading before result after → IsMarked (steered_of before) →
-      IsMarked (steered_of after)
-  advanced_marked before after result h marked =
-      advanced_holds false IsMarked before after result h marked
+  pub advanced_consistent : (before after : SteeredKeeper) (result : Result ⊤ Refusal) →
+      IsAdvancedTo false who reading before result after → IsConsistent (steered_of before) →
+      IsConsistent (steered_of after)
+  advanced_consistent before after result h consistent =
+      advanced_holds false IsConsistent before after result h consistent
       (λ accepted x begun.
-      begun-marked before.keeper before.course x after.course begun
-      (awake_at reading (steered_of before) accepted) marked)
+      begun-consistent before.keeper before.course x after.course begun
+      (awake_at reading (steered_of before) accepted) consistent)
 
   -- the seconds that haven't begun can follow
   pub advanced_rest : (is_late : Bool) (before after : SteeredKeeper)
@@ -141,7 +141,7 @@ module _ (who reading : ℕ) where
   pub record Stops (refusal : Refusal) (before after : SteeredClock) : Type 0 where
     pub short : (refusal ≡ Full) ⊎ (refusal ≡ Memory)
     pub rest : IsOnTheWay second_begun_at reading before after
-    pub marked : IsMarked before → IsMarked after
+    pub consistent : IsConsistent before → IsConsistent after
 
   pub is_short : (count : ℕ) (keeper : Keeper) (refusal : Refusal) →
       IsShort count keeper refusal → (refusal ≡ Full) ⊎ (refusal ≡ Memory)
@@ -155,7 +155,7 @@ module _ (who reading : ℕ) where
       IsUnready keeper_state HasAdded HasRoom IsShort count x refusal after.keeper →
       Stops refusal (steered_of before) (steered_of after)
   stops-at count before after x refusal accepted begun unready =
-      let goal : State → Type 0 = λ k. IsMarked (seen k after.course) in
+      let goal : State → Type 0 = λ k. IsConsistent (seen k after.course) in
       record {
         short = is_short count after.keeper refusal unready.short;
         rest =
@@ -163,9 +163,9 @@ module _ (who reading : ℕ) where
             IsOnTheWay second_begun_at reading (steered_of before) (seen k after.course))
             (sym unready.same)
             (begun-rest false before.keeper before.course x after.course begun);
-        marked = λ marked. subst goal (sym unready.same)
-            (begun-marked before.keeper before.course x after.course begun
-            (awake_at reading (steered_of before) accepted) marked);
+        consistent = λ consistent. subst goal (sym unready.same)
+            (begun-consistent before.keeper before.course x after.course begun
+            (awake_at reading (steered_of before) accepted) consistent);
       }
 
   -- a call that isn't made
@@ -185,8 +185,8 @@ module _ (who reading : ℕ) where
   has_stopped (Ok value) before after h = h
   has_stopped (Err refusal) before after h = (h.short, h.rest)
 
-  pub stopped_marked : {R : Type 0} (result : Result R Refusal) (before after : SteeredClock) →
-      MatchResult result (λ _. ⊥) (λ refusal. Stops refusal before after) → IsMarked before →
-      IsMarked after
-  stopped_marked (Ok value) before after h = absurd h
-  stopped_marked (Err refusal) before after h = h.marked
+  pub stopped_consistent : {R : Type 0} (result : Result R Refusal) (before after : SteeredClock) →
+      MatchResult result (λ _. ⊥) (λ refusal. Stops refusal before after) → IsConsistent before →
+      IsConsistent after
+  stopped_consistent (Ok value) before after h = absurd h
+  stopped_consistent (Err refusal) before after h = h.consistent

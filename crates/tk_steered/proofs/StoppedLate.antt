@@ -13,15 +13,15 @@ use Rattle.tk_clock.specs.State.{State}
 use Rattle.tk_clock.proofs.Append.{at_place-last}
 use Rattle.tk_keeper.specs.Keeper.{Keeper}
 use Rattle.tk_keeper.specs.Room.{HasAdded, HasRoom, IsFull, IsOut, IsShort, continued, has_room, keeper_state}
-use Rattle.tk_ntp.specs.Account.{IsMarked}
+use Rattle.tk_ntp.specs.Account.{IsConsistent}
 use Rattle.tk_ntp.specs.Course.{Course, seen}
 use Rattle.tk_ntp.specs.Entries.{second_entries, with_second}
 use Rattle.tk_ntp.specs.Keeping.{Begins, HasArrivedOr, HasBegun, IsUnready, Still}
 use Rattle.tk_ntp.specs.Second.{leap_at}
 use Rattle.tk_ntp.specs.SteeredClock.{SteeredClock, reading_refusal}
 use Rattle.tk_ntp.proofs.Accepted.{ahead_at, awake_at}
-use Rattle.tk_ntp.proofs.Marked.{marked_at_last}
-use Rattle.tk_ntp.proofs.MarkedLate.{marked_late, next-at}
+use Rattle.tk_ntp.proofs.Consistent.{consistent_at_last}
+use Rattle.tk_ntp.proofs.ConsistentLate.{consistent_late, next-at}
 use Rattle.tk_ntp.proofs.SeenBy.{advanced, same_seen}
 use Rattle.tk_steered.specs.Kept.{IsAdvancedTo, SteeredKeeper, steered_of}
 use Rattle.tk_steered.proofs.Continued.{IsTheirs, theirs-second}
@@ -70,15 +70,15 @@ module _ (who reading : ℕ) where
       HasBegun keeper_state HasAdded HasRoom IsShort true who reading a before b after →
       distance (keeper_state a).base reading ≤ half (keeper_state a).base.counter →
       (keeper_state a).base.asleep ≡ false →
-      IsMarked (seen (keeper_state a) before) ⊎ HasRoom 3 a →
-      IsMarked (seen (keeper_state b) after) ⊎ HasRoom 3 b
+      IsConsistent (seen (keeper_state a) before) ⊎ HasRoom 3 a →
+      IsConsistent (seen (keeper_state b) after) ⊎ HasRoom 3 b
   begun-late start from end to (Still a course) ahead awake h = h
   begun-late start from last to
       (Begins a ready b end before middle after at due room is given rest) ahead awake h =
       let s = seen (keeper_state a) before in
       let there = next-at at reading s ahead awake in
       let entries = second_entries true who reading at s in
-      let mark : middle.mark ≡ reading = ap (λ (t : SteeredClock). t.mark) is ∙ there.mark in
+      let last_account : middle.last_account ≡ reading = ap (λ (t : SteeredClock). t.last_account) is ∙ there.last_account in
       begun-late b middle end after rest
       (subst (λ (t : SteeredClock). distance t.clock.base reading ≤ half t.clock.base.counter)
       (sym is) there.ahead)
@@ -87,17 +87,17 @@ module _ (who reading : ℕ) where
       (ended ready b entries given
       (theirs-second who reading (leap_at before.steering.ntp before.next)
       (with_second true reading at s)) room.room)
-      as (λ _. IsMarked (seen (keeper_state b) middle) ⊎ HasRoom 3 b) [
-        | inl last ↦ inl (marked_at_last (seen (keeper_state b) middle) (mark ∙ sym last))
+      as (λ _. IsConsistent (seen (keeper_state b) middle) ⊎ HasRoom 3 b) [
+        | inl last ↦ inl (consistent_at_last (seen (keeper_state b) middle) (last_account ∙ sym last))
         | inr more ↦ inr more
       ])
 
   stopped-late : (x b : Keeper) (after : Course) (refusal : Refusal) →
       IsUnready keeper_state HasAdded HasRoom IsShort 3 x refusal b →
-      IsMarked (seen (keeper_state x) after) ⊎ HasRoom 3 x →
-      IsMarked (seen (keeper_state b) after)
-  stopped-late x b after refusal unready (inl marked) =
-      subst (λ (k : State). IsMarked (seen k after)) (sym unready.same) marked
+      IsConsistent (seen (keeper_state x) after) ⊎ HasRoom 3 x →
+      IsConsistent (seen (keeper_state b) after)
+  stopped-late x b after refusal unready (inl consistent) =
+      subst (λ (k : State). IsConsistent (seen k after)) (sym unready.same) consistent
   stopped-late x b after refusal unready (inr room) =
       absurd (room-short b refusal (room-stays x b unready.kept room) unready.short)
 
@@ -107,25 +107,25 @@ module _ (who reading : ℕ) where
       MatchOption refused
       (HasArrivedOr keeper_state HasAdded HasRoom IsShort true who reading a before result b after)
       (λ r. (result ≡ Err r) × (b ≡ a) × (after ≡ before)) →
-      IsMarked (seen (keeper_state a) before) → IsMarked (seen (keeper_state b) after)
-  late-by None a before (Ok done) b after is h marked =
+      IsConsistent (seen (keeper_state a) before) → IsConsistent (seen (keeper_state b) after)
+  late-by None a before (Ok done) b after is h consistent =
       let s = seen (keeper_state a) before in
-      marked_late reading s (seen (keeper_state b) after)
+      consistent_late reading s (seen (keeper_state b) after)
       (advanced keeper_state HasAdded HasRoom IsShort true who reading a before b after h)
-      (ahead_at reading s is) (awake_at reading s is) marked
-  late-by None a before (Err refusal) b after is h marked =
+      (ahead_at reading s is) (awake_at reading s is) consistent
+  late-by None a before (Err refusal) b after is h consistent =
       let s = seen (keeper_state a) before in
       stopped-late h.last b after refusal h.unready
       (begun-late a before h.last after h.begun (ahead_at reading s is) (awake_at reading s is)
-      (inl marked))
-  late-by (Some r) a before result b after is h marked =
-      subst IsMarked (sym (same_seen keeper_state HasAdded HasRoom IsShort a b before after h.1 h.2))
-      marked
+      (inl consistent))
+  late-by (Some r) a before result b after is h consistent =
+      subst IsConsistent (sym (same_seen keeper_state HasAdded HasRoom IsShort a b before after h.1 h.2))
+      consistent
 
   -- the last account stays after the last command, and before the next second
-  pub late_marked : (before after : SteeredKeeper) (result : Result ⊤ Refusal) →
-      IsAdvancedTo true who reading before result after → IsMarked (steered_of before) →
-      IsMarked (steered_of after)
-  late_marked before after result =
+  pub late_consistent : (before after : SteeredKeeper) (result : Result ⊤ Refusal) →
+      IsAdvancedTo true who reading before result after → IsConsistent (steered_of before) →
+      IsConsistent (steered_of after)
+  late_consistent before after result =
       late-by (reading_refusal reading (steered_of before)) before.keeper before.course result
       after.keeper after.course refl

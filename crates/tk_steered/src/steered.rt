@@ -48,7 +48,7 @@ impl<A: Allocator + Copy> Steered<A> {
     ghost use Rattle.tk_clock.specs.Reach.{IsFirstReached, IsNeverReached};
     ghost use Rattle.tk_clock.specs.Time.{nanoseconds};
     ghost use Rattle.tk_keeper.specs.Room.{keeper_state};
-    ghost use Rattle.tk_ntp.specs.Account.{owed, IsMarked};
+    ghost use Rattle.tk_ntp.specs.Account.{owed, IsConsistent};
     ghost use Rattle.tk_ntp.specs.Advance.{second_time};
     ghost use Rattle.tk_ntp.specs.SteeredClock.{steered_refusal};
     ghost use Rattle.tk_steered.specs.Kept.{kept_from, kept_opened, steered_of};
@@ -74,7 +74,7 @@ impl<A: Allocator + Copy> Steered<A> {
             (λ steered. (steered_refusal desc reading real hz ≡ None)
             × (steered ≡ kept_opened desc reading real hz))
             (λ refusal. steered_refusal desc reading real hz ≡ Some refusal) }
-        ensures marked { IfOk result (λ steered. IsMarked (steered_of steered)) }
+        ensures consistent { IfOk result (λ steered. IsConsistent (steered_of steered)) }
         ensures nothing { IfOk result (λ steered. owed (steered_of steered) ≡ pos 0) }
     {
         let keeper = Timekeeper::open(alloc, desc, reading, real)?;

@@ -50,7 +50,7 @@ fn assert_alike(rt: &impl Abort, found: &SteeredClock, wanted: &SteeredClock) {
     assert_same(rt, &found.snapshot(0).words(), &wanted.snapshot(0).words());
     assert_same(rt, &found.rate(), &wanted.rate());
     let (a, b) = (found.numbers(), wanted.numbers());
-    assert_same(rt, &(a.next, a.mark), &(b.next, b.mark));
+    assert_same(rt, &(a.next, a.last_account), &(b.next, b.last_account));
     let (a, b) = (a.steering, b.steering);
     assert_same(rt, &(a.lag.high, a.lag.low), &(b.lag.high, b.lag.low));
     let (a, b) = (a.ntp, b.ntp);

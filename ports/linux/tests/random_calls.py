@@ -141,7 +141,7 @@ class Timeline(Sleeps, Orders):
         self.steered.clock = replace(
             old, counter=new, last=first, amount=(old.amount << new.shift) >> old.counter.shift,
             raw_amount=(old.raw_amount << new.shift) >> old.counter.shift)
-        self.steered.lag, self.steered.mark = 0, first
+        self.steered.lag, self.steered.last_account = 0, first
         self.steered.apply(first, "step", 0, 0)
 
     def expect(self, got, expected, what):

@@ -103,12 +103,12 @@ impl Course {
         ensures leap { result ≡ leap_at self.old.steering.ntp self.old.next }
     {
         let now = clock.snapshot(0);
-        let cycles = now.desc().gap(self.mark, reading);
+        let cycles = now.desc().gap(self.last_account, reading);
         let leap = self
             .steering
             .begin(now.desc(), now.mult(), cycles, self.next);
         self.next += 1;
-        self.mark = reading;
+        self.last_account = reading;
         leap
     }
 
@@ -118,7 +118,7 @@ impl Course {
         ensures { result ≡ late_start at (seen clock.now self.now) }
     {
         if self.is_behind(clock, at) {
-            self.mark
+            self.last_account
         } else {
             at
         }

@@ -216,9 +216,9 @@ impl Course {
             }
             Command::Resume(_) => self.restart(clocks, who, reading),
             _ => {
-                let cycles = desc.gap(self.mark, reading);
+                let cycles = desc.gap(self.last_account, reading);
                 self.steering.account(desc, mult, cycles);
-                self.mark = reading;
+                self.last_account = reading;
             }
         }
     }
@@ -235,7 +235,7 @@ impl Course {
             C.has_room count clocks.new }
     {
         self.next = second_after(clocks.clock(), reading);
-        self.mark = reading;
+        self.last_account = reading;
         self.steer(clocks, who, reading);
     }
 }

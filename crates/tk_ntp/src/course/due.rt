@@ -38,7 +38,7 @@ impl Course {
         ensures { result ≡ true → IsSettled (seen clock.now self.now) reading }
     {
         let now = clock.snapshot(0);
-        self.mark == now.last()
+        self.last_account == now.last()
             && now.desc().gap(now.last(), reading) < FEW_CYCLES
             && self.is_settled(clock, reading)
     }

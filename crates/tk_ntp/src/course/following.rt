@@ -4,7 +4,7 @@ ghost use Rattle.std.specs.Prelude.{◌≡◌, ◌<◌, ◌≤◌, false, MatchO
 ghost use Rattle.tk_clock.specs.Command.{is_resume};
 ghost use Rattle.tk_clock.specs.Limits.{clock_end};
 ghost use Rattle.tk_clock.specs.Refusal.{state_refusal};
-ghost use Rattle.tk_ntp.specs.Account.{IsMarked};
+ghost use Rattle.tk_ntp.specs.Account.{IsConsistent};
 ghost use Rattle.tk_ntp.specs.Advance.{leap_of_clock, seconds_left};
 ghost use Rattle.tk_ntp.specs.Course.{seen};
 ghost use Rattle.tk_ntp.specs.Fault.{is_faulty};
@@ -29,8 +29,8 @@ impl Course {
             (seen clock.now self.new) }
         // the account adds up to what the clocks were asked for
         ensures sum { let before = seen clock.now self.old in
-            IsMarked before → MatchOption result (Unit {0})
-            (λ _. IsOwedAt self.new.mark before (seen clock.now self.new)) }
+            IsConsistent before → MatchOption result (Unit {0})
+            (λ _. IsOwedAt self.new.last_account before (seen clock.now self.new)) }
         // the second can be the one of a leap
         ensures next { MatchOption result (Unit {0})
             (λ _. (0 < self.new.next) × (self.new.next ≤ clock_end)) }
@@ -119,7 +119,7 @@ impl Course {
         ensures { IsAskedAlone request.now (seen clock.now self.old) result
             (seen clock.now self.new) }
     {
-        let real = real(clock, self.mark())?;
+        let real = real(clock, self.last_account())?;
         let tai = tai_of(clock);
         Ok(self.ask_discipline(request, real, tai))
     }

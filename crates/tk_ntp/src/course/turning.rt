@@ -26,9 +26,9 @@ impl Course {
             ≡ accounted_awake before.base.asleep reading (seen before self.old) }
     {
         if !former.asleep() {
-            let cycles = former.desc().gap(self.mark, reading);
+            let cycles = former.desc().gap(self.last_account, reading);
             self.steering.account(former.desc(), former.mult(), cycles);
-            self.mark = reading;
+            self.last_account = reading;
         }
     }
 
@@ -39,10 +39,10 @@ impl Course {
           steering = record self.old.steering {
             lag = lag_over from desc self.old.steering.lag;
           };
-          mark = first;
+          last_account = first;
         } }
     {
         self.steering.carry_over(from, desc);
-        self.mark = first;
+        self.last_account = first;
     }
 }

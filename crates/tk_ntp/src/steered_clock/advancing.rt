@@ -1,7 +1,7 @@
 //! Lets the seconds of REALTIME begin.
 ghost use Rattle.std.specs.Prelude.{◌≡◌, MatchResult, IfOk, Some, None};
 ghost use Rattle.tk_ntp.specs.SteeredClock.{reading_refusal};
-ghost use Rattle.tk_ntp.specs.Account.{IsMarked, IsAccounted};
+ghost use Rattle.tk_ntp.specs.Account.{IsConsistent, IsAccounted};
 ghost use Rattle.tk_ntp.specs.History.{IsNumbered, IsOffsetKept, IsTaiKept};
 ghost use Rattle.tk_ntp.specs.Late.{IsAdvancedLate};
 ghost use Rattle.tk_ntp.specs.LateLaws.{IsAccountedLate, IsNumberedLate, IsOffsetKeptLate, IsTaiKeptLate};
@@ -46,7 +46,7 @@ impl SteeredClock {
         // TAI runs on at each leap
         ensures tai { IfOk result (λ _. IsTaiKept reading self.old self.new) }
         // the accounts add up to what the seconds were asked for
-        ensures sum { IfOk result (λ _. IsMarked self.old → IsAccounted reading self.old self.new) }
+        ensures sum { IfOk result (λ _. IsConsistent self.old → IsAccounted reading self.old self.new) }
         // the lag stays small while the clocks get the rates that their seconds need
         ensures small { IfOk result (λ _. StaysSmall reading self.old self.new) }
     {
@@ -73,12 +73,12 @@ impl SteeredClock {
         // no second up to the reading is left
         ensures none { IfOk result (λ _. IsNoneDue self.new reading) }
         // the last account stays where the laws of the lag want it
-        ensures marked { IfOk result (λ _. IsMarked self.old → IsMarked self.new) }
+        ensures consistent { IfOk result (λ _. IsConsistent self.old → IsConsistent self.new) }
         // the laws of `advance` on the number of the next second, the offset, TAI and the accounts
         ensures number { IfOk result (λ _. IsNumberedLate reading self.old self.new) }
         ensures offset { IfOk result (λ _. IsOffsetKeptLate reading self.old self.new) }
         ensures tai { IfOk result (λ _. IsTaiKeptLate reading self.old self.new) }
-        ensures sum { IfOk result (λ _. IsMarked self.old →
+        ensures sum { IfOk result (λ _. IsConsistent self.old →
             IsAccountedLate reading self.old self.new) }
     {
         self.course.advance(&mut self.clock, true, 0, reading)

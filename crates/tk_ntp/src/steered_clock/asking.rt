@@ -2,7 +2,7 @@
 ghost use Rattle.std.specs.Prelude.{◌≡◌, false, true};
 ghost use Rattle.tk_clock.specs.Command.{is_resume};
 ghost use Rattle.tk_ntp.specs.Applied.{IsApplied};
-ghost use Rattle.tk_ntp.specs.Account.{owed, sets_by, sets_by_step, IsBalanced, IsMarked};
+ghost use Rattle.tk_ntp.specs.Account.{owed, sets_by, sets_by_step, IsBalanced, IsConsistent};
 ghost use Rattle.tk_ntp.specs.Asked.{IsAnswered};
 ghost use Rattle.tk_ntp.specs.Request.{step_of};
 ghost use Rattle.tk_ntp.specs.Steady.{is_kept_by, keeps_rate, IsSmallOrSame};
@@ -33,12 +33,12 @@ impl SteeredClock {
     pub fn adjtimex(&mut self, reading: u64, request: &Timex) -> Result<Reply, Refusal>
         ensures answer { IsAnswered reading request.now self.old result self.new }
         // the accounts add up to what the clocks were asked for
-        ensures sum { IsMarked self.old →
+        ensures sum { IsConsistent self.old →
             IsBalanced (sets_by_step reading (step_of request.now)) reading self.old self.new }
         // the lag stays small, if it was when the clocks got their rate
         ensures small { IsSmallOrSame (keeps_rate request.now) reading self.old self.new }
         // the last account stays after the last command, and before the next second
-        ensures marked { IsMarked self.old → IsMarked self.new }
+        ensures consistent { IsConsistent self.old → IsConsistent self.new }
     {
         self.course.adjtimex(&mut self.clock, 0, reading, request)
     }
@@ -59,13 +59,13 @@ impl SteeredClock {
     pub fn apply(&mut self, reading: u64, cmd: Command) -> Result<(), Refusal>
         ensures answer { IsApplied reading cmd self.old result self.new }
         // the accounts add up to what the clocks were asked for: to nothing at a resume
-        ensures sum { IsMarked self.old → is_resume cmd ≡ false →
+        ensures sum { IsConsistent self.old → is_resume cmd ≡ false →
             IsBalanced (sets_by reading cmd) reading self.old self.new }
         ensures small { is_resume cmd ≡ false →
             IsSmallOrSame (is_kept_by cmd) reading self.old self.new }
-        ensures woken { IsMarked self.old → is_resume cmd ≡ true →
+        ensures woken { IsConsistent self.old → is_resume cmd ≡ true →
             owed self.new ≡ owed self.old }
-        ensures marked { IsMarked self.old → IsMarked self.new }
+        ensures consistent { IsConsistent self.old → IsConsistent self.new }
     {
         self.course.apply(&mut self.clock, 0, reading, cmd)
     }

@@ -1,7 +1,7 @@
 //! Changes the counter that steered clocks run over.
 ghost use Rattle.std.specs.Prelude.{◌≡◌, IfOk};
 ghost use Rattle.tk_counter.specs.Counter.{IsCounter};
-ghost use Rattle.tk_ntp.specs.Account.{IsMarked};
+ghost use Rattle.tk_ntp.specs.Account.{IsConsistent};
 ghost use Rattle.tk_ntp.specs.ChangeCounter.{IsCounterChanged, IsTurnedOver};
 ghost use Rattle.tk_ntp.specs.ChangeLaws.{IsBalancedOver, IsKeptOver};
 
@@ -42,10 +42,10 @@ impl SteeredClock {
         // no part of the offset is lost, and TAI runs on
         ensures kept { IfOk result (λ _. IsKeptOver reading first self.old self.new) }
         // the accounts add up to what the clocks were asked for, and the sum is carried over
-        ensures sum { IsMarked self.old → IfOk result
+        ensures sum { IsConsistent self.old → IfOk result
             (λ _. IsBalancedOver reading self.old self.new) }
         // the last account stays where the laws of the lag want it
-        ensures marked { IfOk result (λ _. IsMarked self.new) }
+        ensures consistent { IfOk result (λ _. IsConsistent self.new) }
     {
         if first > desc.mask() {
             return Err(Refusal::Invalid);
@@ -62,7 +62,7 @@ impl SteeredClock {
     /// Changes the counter after the seconds up to `reading` have begun.
     fn turn_over(&mut self, reading: u64, desc: CounterDesc, first: u64) -> Result<(), Refusal>
         ensures answer { IsTurnedOver reading desc first self.old result self.new }
-        ensures marked { IfOk result (λ _. IsMarked self.new) }
+        ensures consistent { IfOk result (λ _. IsConsistent self.new) }
     {
         let former = self.clock.snapshot(0);
         self.clock.change_counter(reading, desc, first)?;

@@ -1,6 +1,6 @@
 //! Returns steered clocks in plain numbers, and restores them from these numbers.
 ghost use Rattle.std.specs.Prelude.{◌≡◌, ◌↔◌, IsTrue, Ok, IfOk};
-ghost use Rattle.tk_ntp.specs.Account.{IsMarked};
+ghost use Rattle.tk_ntp.specs.Account.{IsConsistent};
 ghost use Rattle.tk_ntp.specs.Numbers.{steered_numbers};
 ghost use Rattle.tk_ntp.specs.Restored.{steered_from};
 
@@ -13,7 +13,7 @@ use tk_clock::Clock;
 use tk_counter::SECONDS_END;
 
 impl SteeredClock {
-    /// Returns the numbers that the discipline, the lag, the next second and the mark are kept in.
+    /// Returns the numbers that the discipline, the lag, the next second and the last account are kept in.
     /// `from_numbers` restores the steered clocks from them and from `clock`.
     pub fn numbers(&self) -> SteeredNumbers
         ensures value { result ≡ steered_numbers self.now }
@@ -26,7 +26,7 @@ impl SteeredClock {
     /// steered clocks can be in are accepted, together or not: the caller passes those that belong
     /// together.
     ///
-    /// Ask `is_marked` whether the laws of the lag hold for them.
+    /// Ask `is_consistent` whether the laws of the lag hold for them.
     ///
     /// # Errors
     ///
@@ -63,7 +63,7 @@ impl SteeredClock {
             course: Course {
                 steering: Steering::of_numbers(steering),
                 next: numbers.next,
-                mark: numbers.mark,
+                last_account: numbers.last_account,
             },
         })
     }
@@ -75,15 +75,15 @@ impl SteeredClock {
     /// It is there after `open` and `open_at`, and `advance`, `advance_late`, `adjtimex`, `apply` and
     /// `pulse` keep it there. So it is to be asked of numbers that come from elsewhere
     /// (`from_numbers`).
-    pub fn is_marked(&self) -> bool
-        ensures { IsTrue result ↔ IsMarked self.now }
+    pub fn is_consistent(&self) -> bool
+        ensures { IsTrue result ↔ IsConsistent self.now }
     {
         let now = self.snapshot(0);
-        let mark = self.course.mark();
+        let last_account = self.course.last_account();
         if now.asleep() {
-            return mark == now.last();
+            return last_account == now.last();
         }
-        let cycles = now.desc().gap(now.last(), mark);
+        let cycles = now.desc().gap(now.last(), last_account);
         if cycles > now.desc().half() {
             return false;
         }

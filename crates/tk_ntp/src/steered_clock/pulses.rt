@@ -1,6 +1,6 @@
 //! Takes pulses of a signal.
 ghost use Rattle.std.specs.Prelude.{◌≡◌, IfOk, false, is_none};
-ghost use Rattle.tk_ntp.specs.Account.{IsBalanced, IsMarked};
+ghost use Rattle.tk_ntp.specs.Account.{IsBalanced, IsConsistent};
 ghost use Rattle.tk_ntp.specs.Pulse.{IsPulse};
 ghost use Rattle.tk_ntp.specs.Pulsed.{IsKeptAtPulse, IsPulsed, with_lost};
 ghost use Rattle.tk_ntp.specs.Steady.{IsSmallOrSame};
@@ -23,11 +23,11 @@ impl SteeredClock {
         // no part of the offset is lost, and TAI runs on
         ensures kept { IfOk result (λ _. IsKeptAtPulse reading pulse self.old self.new) }
         // the accounts add up to what the clocks were asked for
-        ensures sum { IsMarked self.old → IsBalanced (λ _. false) reading self.old self.new }
+        ensures sum { IsConsistent self.old → IsBalanced (λ _. false) reading self.old self.new }
         // the lag stays small, if it was when the clocks got their rate
         ensures small { IsSmallOrSame (is_none pulse.frequency) reading self.old self.new }
         // the last account stays after the last command, and before the next second
-        ensures marked { IsMarked self.old → IsMarked self.new }
+        ensures consistent { IsConsistent self.old → IsConsistent self.new }
     {
         self.course.pulse(&mut self.clock, 0, reading, pulse)
     }

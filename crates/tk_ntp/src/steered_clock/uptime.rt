@@ -1,7 +1,7 @@
 //! Opens steered clocks with an uptime.
 ghost use Rattle.std.specs.Prelude.{◌≡◌, ◌*◌, ◌^◌, ◌*ℤ◌, MatchResult, IfOk, Some, None, pos, unsigned_abs};
 ghost use Rattle.tk_clock.specs.Time.{nanoseconds};
-ghost use Rattle.tk_ntp.specs.Account.{owed, IsMarked};
+ghost use Rattle.tk_ntp.specs.Account.{owed, IsConsistent};
 ghost use Rattle.tk_ntp.specs.Rate.{nominal};
 ghost use Rattle.tk_ntp.specs.Uptime.{steered_running_refusal, steered_running};
 
@@ -31,7 +31,7 @@ impl SteeredClock {
             (λ steered. (steered_running_refusal desc reading real uptime hz ≡ None)
             × (steered ≡ steered_running desc reading real uptime hz))
             (λ refusal. steered_running_refusal desc reading real uptime hz ≡ Some refusal) }
-        ensures marked { IfOk result IsMarked }
+        ensures consistent { IfOk result IsConsistent }
         // nothing is owed for the time since the opening
         ensures counted { IfOk result (λ steered. owed steered
             ≡ pos (unsigned_abs (nanoseconds uptime) * 2 ^ desc.shift) *ℤ pos nominal) }

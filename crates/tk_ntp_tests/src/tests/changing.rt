@@ -79,7 +79,7 @@ fn carries(
     assert_same(rt, &(before, lag_of(&steered)), &(before, after));
     assert_same(
         rt,
-        &(steered.numbers().mark, steered.is_marked()),
+        &(steered.numbers().last_account, steered.is_consistent()),
         &(5, true),
     );
 }
@@ -141,9 +141,13 @@ fn the_lag_is_accounted_for_up_to_the_change(rt: HostRuntime) {
     changes(&rt, &mut steered, (1_000_000, finer, 77), Ok(()));
     assert_same(&rt, &lag_of(&steered), &(NONE + 931, 1_385_447_424 << 32));
     let numbers = steered.numbers();
-    assert_same(&rt, &(numbers.mark, numbers.next), &(77, 1_700_000_001));
+    assert_same(
+        &rt,
+        &(numbers.last_account, numbers.next),
+        &(77, 1_700_000_001),
+    );
     assert_same(&rt, &numbers.steering.ntp.frequency, &(1_000 << 32));
-    assert_same(&rt, &steered.is_marked(), &true);
+    assert_same(&rt, &steered.is_consistent(), &true);
     let monotonic = steered.snapshot(0).get(ClockId::Monotonic, 77);
     let time = Timespec {
         sec: 0,
@@ -182,8 +186,12 @@ fn sleeping_clocks_stay_asleep(rt: HostRuntime) {
     // a reading behind the last command is no error, and no cycle is accounted for
     changes(&rt, &mut steered, (0, coarse, 7), Ok(()));
     assert_same(&rt, &lag_of(&steered), &lag);
-    let (mark, asleep) = (steered.numbers().mark, steered.snapshot(0).asleep());
-    assert_same(&rt, &(mark, asleep, steered.is_marked()), &(7, true, true));
+    let (last_account, asleep) = (steered.numbers().last_account, steered.snapshot(0).asleep());
+    assert_same(
+        &rt,
+        &(last_account, asleep, steered.is_consistent()),
+        &(7, true, true),
+    );
 }
 
 #[test]
@@ -209,5 +217,9 @@ fn raw_may_be_too_far_ahead_for_another_counter(rt: HostRuntime) {
     let due = 1_111_728_871;
     changes(&rt, &mut steered, (due, exact, 0), Err(Refusal::Range));
     let numbers = steered.numbers();
-    assert_same(&rt, &(numbers.next, numbers.mark), &(1_700_000_002, due));
+    assert_same(
+        &rt,
+        &(numbers.next, numbers.last_account),
+        &(1_700_000_002, due),
+    );
 }

@@ -38,7 +38,11 @@ fn leaves(
     let real_offset = 1_483_228_798u64.wrapping_sub(u64::from(tai));
     assert_same(rt, &(now.real_offset() / 1_000_000_000), &real_offset);
     let numbers = steered.numbers();
-    assert_same(rt, &(numbers.next, numbers.mark), &(1_483_228_800, reading));
+    assert_same(
+        rt,
+        &(numbers.next, numbers.last_account),
+        &(1_483_228_800, reading),
+    );
     assert_same(rt, &steered.next_second(), &Some(begins_at));
     let found = numbers.steering.lag;
     assert_same(rt, &(found.high, found.low), &lag);
@@ -144,6 +148,10 @@ fn a_refused_command_is_not_followed(rt: HostRuntime) {
     );
     let steered = SteeredClock::with_course(clock, course);
     let numbers = steered.numbers();
-    assert_same(&rt, &(numbers.next, numbers.mark), &(1_483_228_799, 1_000));
+    assert_same(
+        &rt,
+        &(numbers.next, numbers.last_account),
+        &(1_483_228_799, 1_000),
+    );
     assert_same(&rt, &steered.snapshot(0).tai(), &0);
 }

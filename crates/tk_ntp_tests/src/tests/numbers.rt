@@ -50,7 +50,7 @@ fn numbers(ntp: DisciplineNumbers) -> SteeredNumbers {
             },
         },
         next: 1_700_000_001,
-        mark: 9,
+        last_account: 9,
     }
 }
 
@@ -111,7 +111,7 @@ fn long(numbers: &SteeredNumbers) -> [u64; 7] {
         lag.high,
         lag.low,
         numbers.next,
-        numbers.mark,
+        numbers.last_account,
     ]
 }
 
@@ -183,7 +183,7 @@ fn numbers_at_the_ends_of_their_ranges_are_accepted(rt: HostRuntime) {
     accepts(&rt, lagging(3 << 59, 0));
     let latest = SteeredNumbers {
         next: 9_223_372_037,
-        mark: u64::MAX,
+        last_account: u64::MAX,
         ..numbers(FRESH)
     };
     accepts(&rt, latest);

@@ -18,7 +18,7 @@ fn ticks(
     let now = clock.snapshot(0);
     assert_same(
         rt,
-        &(now.last(), course.numbers().mark),
+        &(now.last(), course.numbers().last_account),
         &(reading, reading),
     );
     assert_same(rt, &course.coming_second(), &coming);

@@ -96,7 +96,7 @@ fn is_left(rt: &impl Abort, now: &Snapshot, left: &Left) {
 fn is_disciplined(rt: &impl Abort, clock: &SteeredClock, left: &Left) {
     let last = left.front.wrapping_mul(STEP);
     let numbers = clock.numbers();
-    let found = (numbers.next, numbers.mark);
+    let found = (numbers.next, numbers.last_account);
     assert_same(rt, &found, &(left.next_second, last));
     let lag = numbers.steering.lag;
     assert_same(rt, &(lag.high, lag.low), &left.lag);

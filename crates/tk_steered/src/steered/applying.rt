@@ -5,7 +5,7 @@ ghost use Rattle.tk_clock.specs.Command.{is_resume};
 ghost use Rattle.tk_clock.specs.Journal.{accepted_count};
 ghost use Rattle.tk_clock.specs.Reach.{distance};
 ghost use Rattle.tk_keeper.specs.Room.{keeper_state};
-ghost use Rattle.tk_ntp.specs.Account.{owed, sets_by, sets_by_step, IsBalanced, IsMarked};
+ghost use Rattle.tk_ntp.specs.Account.{owed, sets_by, sets_by_step, IsBalanced, IsConsistent};
 ghost use Rattle.tk_ntp.specs.Applied.{IsApplied};
 ghost use Rattle.tk_ntp.specs.Asked.{IsAnswered};
 ghost use Rattle.tk_ntp.specs.Request.{step_of};
@@ -33,7 +33,7 @@ impl<A: Allocator + Copy> Steered<A> {
         ensures answer { IsAnsweredBy who reading request.now self.old result self.new }
         // the accounts add up to what the clocks were asked for
         ensures sum { let before = steered_of self.old in let after = steered_of self.new in
-            IsMarked before →
+            IsConsistent before →
             IsBalanced (sets_by_step reading (step_of request.now)) reading before after
             ⊎ HasStopped reading before result after }
         // the lag stays small, if it was when the clocks got their rate
@@ -41,7 +41,7 @@ impl<A: Allocator + Copy> Steered<A> {
             IsSmallOrSame (keeps_rate request.now) reading before after
             ⊎ HasStopped reading before result after }
         // the last account stays after the last command, and before the next second
-        ensures marked { IsMarked (steered_of self.old) → IsMarked (steered_of self.new) }
+        ensures consistent { IsConsistent (steered_of self.old) → IsConsistent (steered_of self.new) }
         // the clocks are those that `SteeredClock::adjtimex` leaves
         ensures clocks { IfOk result (λ reply. IsAnswered reading request.now
             (steered_of self.old) (Ok reply) (steered_of self.new)) }
@@ -68,16 +68,16 @@ impl<A: Allocator + Copy> Steered<A> {
             (steered_of self.old) (Ok tt) (steered_of self.new)) }
         // the accounts add up to what the clocks were asked for: to nothing at a resume
         ensures sum { let before = steered_of self.old in let after = steered_of self.new in
-            IsMarked before → is_resume cmd ≡ false →
+            IsConsistent before → is_resume cmd ≡ false →
             IsBalanced (sets_by reading cmd) reading before after
             ⊎ HasStopped reading before result after }
         ensures small { let before = steered_of self.old in let after = steered_of self.new in
             is_resume cmd ≡ false →
             IsSmallOrSame (is_kept_by cmd) reading before after
             ⊎ HasStopped reading before result after }
-        ensures woken { IsMarked (steered_of self.old) → is_resume cmd ≡ true →
+        ensures woken { IsConsistent (steered_of self.old) → is_resume cmd ≡ true →
             owed (steered_of self.new) ≡ owed (steered_of self.old) }
-        ensures marked { IsMarked (steered_of self.old) → IsMarked (steered_of self.new) }
+        ensures consistent { IsConsistent (steered_of self.old) → IsConsistent (steered_of self.new) }
     {
         if let Command::Update = cmd {
             let done = self.apply_update(who, reading);

@@ -1,6 +1,6 @@
 //! Lets the seconds of REALTIME begin.
 ghost use Rattle.std.specs.Prelude.{IfOk, false, true};
-ghost use Rattle.tk_ntp.specs.Account.{IsAccounted, IsMarked};
+ghost use Rattle.tk_ntp.specs.Account.{IsAccounted, IsConsistent};
 ghost use Rattle.tk_ntp.specs.Advance.{IsAdvanced, IsNoneDue, second_begun_at};
 ghost use Rattle.tk_ntp.specs.History.{IsNumbered, IsOffsetKept, IsTaiKept};
 ghost use Rattle.tk_ntp.specs.Late.{IsAdvancedLate, second_begun_late};
@@ -41,13 +41,13 @@ impl<A: Allocator + Copy> Steered<A> {
         ensures offset { IfOk result
             (λ _. IsOffsetKept reading (steered_of self.old) (steered_of self.new)) }
         // the accounts add up to what the seconds were asked for
-        ensures sum { IfOk result (λ _. IsMarked (steered_of self.old) →
+        ensures sum { IfOk result (λ _. IsConsistent (steered_of self.old) →
             IsAccounted reading (steered_of self.old) (steered_of self.new)) }
         // the lag stays small while the clocks get the rates that their seconds need
         ensures small { IfOk result
             (λ _. StaysSmall reading (steered_of self.old) (steered_of self.new)) }
         // the last account stays where the laws of the lag want it
-        ensures marked { IsMarked (steered_of self.old) → IsMarked (steered_of self.new) }
+        ensures consistent { IsConsistent (steered_of self.old) → IsConsistent (steered_of self.new) }
         // after a refused call the other seconds can begin, as if none had begun before
         ensures rest { IsOnTheWay second_begun_at reading
             (steered_of self.old) (steered_of self.new) }
@@ -81,9 +81,9 @@ impl<A: Allocator + Copy> Steered<A> {
             (λ _. IsOffsetKeptLate reading (steered_of self.old) (steered_of self.new)) }
         ensures tai { IfOk result
             (λ _. IsTaiKeptLate reading (steered_of self.old) (steered_of self.new)) }
-        ensures sum { IfOk result (λ _. IsMarked (steered_of self.old) →
+        ensures sum { IfOk result (λ _. IsConsistent (steered_of self.old) →
             IsAccountedLate reading (steered_of self.old) (steered_of self.new)) }
-        ensures marked { IsMarked (steered_of self.old) → IsMarked (steered_of self.new) }
+        ensures consistent { IsConsistent (steered_of self.old) → IsConsistent (steered_of self.new) }
         ensures rest { IsOnTheWay (λ at. second_begun_late at reading) reading
             (steered_of self.old) (steered_of self.new) }
         // each entry that it adds is the caller's, at `reading`

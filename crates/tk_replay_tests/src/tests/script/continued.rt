@@ -133,7 +133,7 @@ fn assert_numbers(rt: &impl Abort, numbers: SteeredNumbers) {
     assert_same(rt, &lag.low, &17_553_326_032_570_810_368);
     assert_same(
         rt,
-        &(numbers.next, numbers.mark),
+        &(numbers.next, numbers.last_account),
         &(1_700_000_011, 9_496_540_210),
     );
 }

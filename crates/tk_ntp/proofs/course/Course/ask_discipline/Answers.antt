@@ -12,7 +12,7 @@ returns-clause-state c = λ clock.
       clock = clock;
       steering = steering;
       next = c.self.inside.next;
-      mark = c.self.inside.mark;
+      last_account = c.self.inside.last_account;
     } in
     ap steered_by c.adjtimex.ensures.state
     ∙ ap (λ (a : Course). with_asked c.args.request.now c.args.real (seen clock a)) c.self.view_is

@@ -7,7 +7,7 @@ returns-clause-back c = λ clock.
     let course : Course = record {
       steering = c.self.inside.steering;
       next = c.self.inside.next;
-      mark = c.self.inside.mark;
+      last_account = c.self.inside.last_account;
     } in
     rw (← c.self.view_is)
     (steered_back (seen clock course) c.numbers.ensures.range c.numbers.ensures.lag

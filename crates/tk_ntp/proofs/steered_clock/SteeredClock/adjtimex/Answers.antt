@@ -3,7 +3,7 @@ use Rattle.tk_ntp.specs.Asked.{IsAnswered}
 use Rattle.tk_ntp.specs.Course.{seen}
 use Rattle.tk_ntp.specs.SteeredClock.{SteeredClock}
 use Rattle.tk_ntp.proofs.Alone.{answered}
-use Rattle.tk_ntp.proofs.Laws.{answered_marked, answered_small, answered_sum}
+use Rattle.tk_ntp.proofs.Laws.{answered_consistent, answered_small, answered_sum}
 use Rattle.tk_ntp.proofs.steered_clock.SteeredClock.adjtimex.Goals as goal
 
 pub returns-clause-answer : goal.returns-clause-answer
@@ -23,7 +23,7 @@ returns-clause-small c =
     answered_small c.args.reading c.args.request.now c.args.self.now
     (seen c.adjtimex.new.clocks c.adjtimex.new.self) c.adjtimex.result (returns-clause-answer c)
 
-pub returns-clause-marked : goal.returns-clause-marked
-returns-clause-marked c =
-    answered_marked c.args.reading c.args.request.now c.args.self.now
+pub returns-clause-consistent : goal.returns-clause-consistent
+returns-clause-consistent c =
+    answered_consistent c.args.reading c.args.request.now c.args.self.now
     (seen c.adjtimex.new.clocks c.adjtimex.new.self) c.adjtimex.result (returns-clause-answer c)

@@ -1,6 +1,6 @@
 use Rattle.std.proofs.Common.{◌≡◌, refl, subst, false}
 use Rattle.std.specs.Prelude.{Ok, Err, MatchOption}
-use Rattle.tk_ntp.specs.Account.{IsAccounted, IsMarked}
+use Rattle.tk_ntp.specs.Account.{IsAccounted, IsConsistent}
 use Rattle.tk_ntp.specs.Advance.{second_begun_at, IsAdvanced, IsNoneDue}
 use Rattle.tk_ntp.specs.Course.{seen}
 use Rattle.tk_ntp.specs.History.{IsNumbered, IsOffsetKept, IsTaiKept}
@@ -83,10 +83,10 @@ pub returns-clause-sum : goal.returns-clause-sum
 returns-clause-sum c =
     let s = c.args.self.now in
     let end = seen c.advance.new.clocks c.advance.new.self in
-    arrived_holds second_begun_at (IsMarked s → IsAccounted c.args.reading s end) c.args.reading s end
+    arrived_holds second_begun_at (IsConsistent s → IsAccounted c.args.reading s end) c.args.reading s end
     c.advance.result (reading_refusal c.args.reading s) refl (told c)
-    (λ accepted chain. λ marked.
-    accounted_for c.args.reading s end chain (awake_at c.args.reading s accepted) marked)
+    (λ accepted chain. λ consistent.
+    accounted_for c.args.reading s end chain (awake_at c.args.reading s accepted) consistent)
 
 pub returns-clause-small : goal.returns-clause-small
 returns-clause-small c =

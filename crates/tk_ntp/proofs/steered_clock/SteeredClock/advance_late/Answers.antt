@@ -1,6 +1,6 @@
 use Rattle.std.proofs.Common.{◌≡◌, refl, subst, true}
 use Rattle.std.specs.Prelude.{Ok, Err, MatchOption}
-use Rattle.tk_ntp.specs.Account.{IsMarked}
+use Rattle.tk_ntp.specs.Account.{IsConsistent}
 use Rattle.tk_ntp.specs.Advance.{IsNoneDue}
 use Rattle.tk_ntp.specs.Course.{seen}
 use Rattle.tk_ntp.specs.Late.{second_begun_late, IsAdvancedLate}
@@ -11,7 +11,7 @@ use Rattle.tk_ntp.proofs.AccountLate.{accounted_late}
 use Rattle.tk_ntp.proofs.Alone.{arrived}
 use Rattle.tk_ntp.proofs.History.{offset_kept_late}
 use Rattle.tk_ntp.proofs.Laws.{arrived_answer, arrived_holds}
-use Rattle.tk_ntp.proofs.MarkedLate.{marked_late}
+use Rattle.tk_ntp.proofs.ConsistentLate.{consistent_late}
 use Rattle.tk_ntp.proofs.Numbered.{numbered_late}
 use Rattle.tk_ntp.proofs.Often.{none_left}
 use Rattle.tk_ntp.proofs.TaiKept.{tai_kept_late}
@@ -45,15 +45,15 @@ returns-clause-none c =
     c.advance.result (reading_refusal c.args.reading s) refl (told c)
     (λ accepted chain. none_left (λ at. second_begun_late at c.args.reading) c.args.reading s end chain)
 
-pub returns-clause-marked : goal.returns-clause-marked
-returns-clause-marked c =
+pub returns-clause-consistent : goal.returns-clause-consistent
+returns-clause-consistent c =
     let s = c.args.self.now in
     let end = seen c.advance.new.clocks c.advance.new.self in
-    arrived_holds (λ at. second_begun_late at c.args.reading) (IsMarked s → IsMarked end)
+    arrived_holds (λ at. second_begun_late at c.args.reading) (IsConsistent s → IsConsistent end)
     c.args.reading s end c.advance.result (reading_refusal c.args.reading s) refl (told c)
-    (λ accepted chain. λ marked.
-    marked_late c.args.reading s end chain (ahead_at c.args.reading s accepted)
-    (awake_at c.args.reading s accepted) marked)
+    (λ accepted chain. λ consistent.
+    consistent_late c.args.reading s end chain (ahead_at c.args.reading s accepted)
+    (awake_at c.args.reading s accepted) consistent)
 
 pub returns-clause-number : goal.returns-clause-number
 returns-clause-number c =
@@ -83,6 +83,6 @@ pub returns-clause-sum : goal.returns-clause-sum
 returns-clause-sum c =
     let s = c.args.self.now in
     let end = seen c.advance.new.clocks c.advance.new.self in
-    arrived_holds (λ at. second_begun_late at c.args.reading) (IsMarked s → IsAccountedLate c.args.reading s end)
+    arrived_holds (λ at. second_begun_late at c.args.reading) (IsConsistent s → IsAccountedLate c.args.reading s end)
     c.args.reading s end c.advance.result (reading_refusal c.args.reading s) refl (told c)
-    (λ accepted chain. λ marked. accounted_late c.args.reading s end chain accepted marked)
+    (λ accepted chain. λ consistent. accounted_late c.args.reading s end chain accepted consistent)

@@ -3,7 +3,7 @@ use Rattle.tk_ntp.specs.Applied.{IsApplied}
 use Rattle.tk_ntp.specs.Course.{seen}
 use Rattle.tk_ntp.specs.SteeredClock.{SteeredClock}
 use Rattle.tk_ntp.proofs.Alone.{applied}
-use Rattle.tk_ntp.proofs.Laws.{applied_marked, applied_small, applied_sum, applied_woken}
+use Rattle.tk_ntp.proofs.Laws.{applied_consistent, applied_small, applied_sum, applied_woken}
 use Rattle.tk_ntp.proofs.steered_clock.SteeredClock.apply.Goals as goal
 
 pub returns-clause-answer : goal.returns-clause-answer
@@ -28,7 +28,7 @@ returns-clause-woken c =
     applied_woken c.args.reading c.args.cmd c.args.self.now
     (seen c.apply.new.clocks c.apply.new.self) c.apply.result (returns-clause-answer c)
 
-pub returns-clause-marked : goal.returns-clause-marked
-returns-clause-marked c =
-    applied_marked c.args.reading c.args.cmd c.args.self.now
+pub returns-clause-consistent : goal.returns-clause-consistent
+returns-clause-consistent c =
+    applied_consistent c.args.reading c.args.cmd c.args.self.now
     (seen c.apply.new.clocks c.apply.new.self) c.apply.result (returns-clause-answer c)

@@ -6,9 +6,9 @@ use Rattle.tk_clock.specs.State.{State}
 use Rattle.tk_ntp.specs.Rate.{nominal}
 use Rattle.tk_ntp.proofs.steered_clock.SteeredClock.open.Goals as goal
 
-pub returns-clause-marked : goal.returns-clause-marked
-returns-clause-marked c =
-    c.fresh.ensures.marked (sym (ap (λ (s : State). s.base.last) c.in_ok-clock.ensures.answer.1))
+pub returns-clause-consistent : goal.returns-clause-consistent
+returns-clause-consistent c =
+    c.fresh.ensures.consistent (sym (ap (λ (s : State). s.base.last) c.in_ok-clock.ensures.answer.1))
 
 -- no cycles at a multiplier add nothing
 nothing : (mult : ℕ) → 0 + 0 * mult ≡ 0

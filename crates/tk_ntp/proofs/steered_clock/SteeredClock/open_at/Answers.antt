@@ -21,9 +21,9 @@ fresh-requires c =
     (first _ _ c.in_ok-clock.ensures.answer.0)) in
     below c.args.real.sec times.since times.until
 
-pub returns-clause-marked : goal.returns-clause-marked
-returns-clause-marked c =
-    c.fresh.ensures.marked (sym (ap (λ (s : State). s.base.last) c.in_ok-clock.ensures.answer.1))
+pub returns-clause-consistent : goal.returns-clause-consistent
+returns-clause-consistent c =
+    c.fresh.ensures.consistent (sym (ap (λ (s : State). s.base.last) c.in_ok-clock.ensures.answer.1))
 
 pub returns-clause-counted : goal.returns-clause-counted
 returns-clause-counted c =

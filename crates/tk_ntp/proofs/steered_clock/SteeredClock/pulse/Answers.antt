@@ -2,7 +2,7 @@ use Rattle.std.proofs.Common.{subst}
 use Rattle.tk_ntp.specs.Course.{seen}
 use Rattle.tk_ntp.specs.Pulsed.{IsPulsed}
 use Rattle.tk_ntp.specs.SteeredClock.{SteeredClock}
-use Rattle.tk_ntp.proofs.PulseLaws.{pulsed_kept, pulsed_marked, pulsed_small, pulsed_sum}
+use Rattle.tk_ntp.proofs.PulseLaws.{pulsed_kept, pulsed_consistent, pulsed_small, pulsed_sum}
 use Rattle.tk_ntp.proofs.Pulses.{pulsed_alone}
 use Rattle.tk_ntp.proofs.steered_clock.SteeredClock.pulse.Goals as goal
 
@@ -23,9 +23,9 @@ returns-clause-small c =
     pulsed_small c.args.reading c.args.pulse c.args.self.now
     (seen c.pulse.new.clocks c.pulse.new.self) c.pulse.result (returns-clause-answer c)
 
-pub returns-clause-marked : goal.returns-clause-marked
-returns-clause-marked c =
-    pulsed_marked c.args.reading c.args.pulse c.args.self.now
+pub returns-clause-consistent : goal.returns-clause-consistent
+returns-clause-consistent c =
+    pulsed_consistent c.args.reading c.args.pulse c.args.self.now
     (seen c.pulse.new.clocks c.pulse.new.self) c.pulse.result (returns-clause-answer c)
 
 pub returns-clause-kept : goal.returns-clause-kept

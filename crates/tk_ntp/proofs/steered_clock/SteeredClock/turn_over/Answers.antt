@@ -1,11 +1,11 @@
 use Rattle.std.proofs.Common.{◌≡◌, ◌∙◌, ap, refl, subst, sym}
 use Rattle.tk_clock.specs.Snapshot.{Snapshot}
 use Rattle.tk_clock.specs.State.{State}
-use Rattle.tk_ntp.specs.Account.{IsMarked}
+use Rattle.tk_ntp.specs.Account.{IsConsistent}
 use Rattle.tk_ntp.specs.ChangeCounter.{steered_over, turned_over}
 use Rattle.tk_ntp.specs.Course.{seen}
 use Rattle.tk_ntp.specs.SteeredClock.{SteeredClock}
-use Rattle.tk_ntp.proofs.Marked.{marked_at_last}
+use Rattle.tk_ntp.proofs.Consistent.{consistent_at_last}
 use Rattle.tk_ntp.proofs.steered_clock.SteeredClock.turn_over.Goals as goal
 
 pub returns-clause-answer : goal.returns-clause-answer
@@ -21,8 +21,8 @@ returns-clause-answer c =
           (seen inside.clock inside.course)) answer.1,
     )
 
-pub returns-clause-marked : goal.returns-clause-marked
-returns-clause-marked c =
-    subst (λ (s : SteeredClock). IsMarked s) (sym (returns-clause-answer c).1)
-    (marked_at_last
+pub returns-clause-consistent : goal.returns-clause-consistent
+returns-clause-consistent c =
+    subst (λ (s : SteeredClock). IsConsistent s) (sym (returns-clause-answer c).1)
+    (consistent_at_last
     (steered_over c.args.reading c.args.desc c.args.first c.args.self.now) refl)

@@ -37,14 +37,14 @@ asked_in_step request here (Ok reply) clock h inv = λ following.
     let step = inv following in
     record {
       clocks = ap (λ (s : SteeredClock). s.clock) h.2 ∙ step.clocks;
-      mark = ap (λ (s : SteeredClock). s.mark) h.2 ∙ step.mark
+      last_account = ap (λ (s : SteeredClock). s.last_account) h.2 ∙ step.last_account
           ∙ sym (ap (λ (s : SteeredClock). s.clock.base.last) h.2);
     }
 asked_in_step request here (Err refusal) clock h inv = λ following.
     let step = inv following in
     record {
       clocks = ap (λ (s : SteeredClock). s.clock) h.1 ∙ step.clocks;
-      mark = ap (λ (s : SteeredClock). s.mark) h.1 ∙ step.mark
+      last_account = ap (λ (s : SteeredClock). s.last_account) h.1 ∙ step.last_account
           ∙ sym (ap (λ (s : SteeredClock). s.clock.base.last) h.1);
     }
 

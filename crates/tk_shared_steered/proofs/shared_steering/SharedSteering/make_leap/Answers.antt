@@ -115,7 +115,7 @@ given g c =
     (subst (λ (cmd : Command). IsGiven cmd reading c.self.inside.caller c.give.new.caller)
     (cmd_is g c) c.in_ok-reading.ensures.answer)
     c.follow_leap-accepted.ensures.answer c.front-self-inside.ensures
-    (leapt_owed reading leap s (no_earlier s reading (step g c).mark))
+    (leapt_owed reading leap s (no_earlier s reading (step g c).last_account))
 
 pub invariant_of-self-2 : goal.invariant_of-self-2
 invariant_of-self-2 g c = λ following.

@@ -68,7 +68,7 @@ set g c =
     taken (Here g c) (New g c) cmd reading (followed reading cmd) s
     c.follow_command-accepted.result (step g c) refl c.in_ok-reading.ensures.answer
     c.follow_command-accepted.ensures.answer c.front-self-inside.ensures
-    (followed_owed reading cmd s (plain g c) (no_earlier s reading (step g c).mark))
+    (followed_owed reading cmd s (plain g c) (no_earlier s reading (step g c).last_account))
 
 pub invariant_of-self-2 : goal.invariant_of-self-2
 invariant_of-self-2 g c = λ following.

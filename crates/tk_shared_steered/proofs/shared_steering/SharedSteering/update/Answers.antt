@@ -71,7 +71,7 @@ given g c =
     c.follow_command-accepted.result (step g c) (same g c) c.in_ok-reading.ensures.answer
     c.follow_command-accepted.ensures.answer c.front-self-inside.ensures
     (followed_owed reading Update s refl
-    (update_order c.begin_alone-leap.result reading (seen c.self.inside.clock c.self.inside.course) s (step g c).mark
+    (update_order c.begin_alone-leap.result reading (seen c.self.inside.clock c.self.inside.course) s (step g c).last_account
     c.begin_alone-leap.ensures.begun))
 
 pub invariant_of-self-2 : goal.invariant_of-self-2

@@ -1,7 +1,7 @@
 use Rattle.std.proofs.Common.{subst}
 use Rattle.tk_steered.specs.Kept.{IsAnsweredBy, SteeredKeeper}
 use Rattle.tk_steered.proofs.Answered.{answered_ok}
-use Rattle.tk_steered.proofs.Laws.{request_marked, request_small, request_sum}
+use Rattle.tk_steered.proofs.Laws.{request_consistent, request_small, request_sum}
 use Rattle.tk_steered.proofs.steered.Steered.adjtimex.Goals as goal
 
 abbrev end : (g : _) → goal.After-adjtimex g → SteeredKeeper
@@ -28,7 +28,7 @@ returns-clause-small g c =
     request_small c.args.who c.args.reading c.args.self.now (end g c) c.args.request.now
     c.adjtimex.result (returns-clause-answer g c)
 
-pub returns-clause-marked : goal.returns-clause-marked
-returns-clause-marked g c =
-    request_marked c.args.who c.args.reading c.args.self.now (end g c) c.args.request.now
+pub returns-clause-consistent : goal.returns-clause-consistent
+returns-clause-consistent g c =
+    request_consistent c.args.who c.args.reading c.args.self.now (end g c) c.args.request.now
     c.adjtimex.result (returns-clause-answer g c)

@@ -1,7 +1,7 @@
 use Rattle.std.proofs.Common.{◌≡◌, subst, false}
 use Rattle.std.specs.Prelude.{IfOk, None}
 use Rattle.tk_keeper.specs.Room.{HasAdded, HasRoom, IsShort, keeper_state}
-use Rattle.tk_ntp.specs.Account.{IsAccounted, IsMarked}
+use Rattle.tk_ntp.specs.Account.{IsAccounted, IsConsistent}
 use Rattle.tk_ntp.specs.Advance.{IsAdvanced, IsNoneDue, second_begun_at}
 use Rattle.tk_ntp.specs.History.{IsNumbered, IsOffsetKept, IsTaiKept}
 use Rattle.tk_ntp.specs.Often.{IsAtOnce}
@@ -16,7 +16,7 @@ use Rattle.tk_ntp.proofs.SeenBy.{arrived, arrived_holds}
 use Rattle.tk_ntp.proofs.Steady.{stays_small}
 use Rattle.tk_ntp.proofs.TaiKept.{tai_kept}
 use Rattle.tk_steered.specs.Kept.{IsAdvancedTo, SteeredKeeper, steered_of}
-use Rattle.tk_steered.proofs.Stopped.{advanced_marked, advanced_rest}
+use Rattle.tk_steered.proofs.Stopped.{advanced_consistent, advanced_rest}
 use Rattle.tk_steered.proofs.steered.Steered.advance.Goals as goal
 
 abbrev end : (g : _) → goal.After-advance g → SteeredKeeper
@@ -86,9 +86,9 @@ pub returns-clause-sum : goal.returns-clause-sum
 returns-clause-sum g c =
     let before = steered_of c.args.self.now in
     let after = steered_of (end g c) in
-    held g c (IsMarked before → IsAccounted c.args.reading before after)
-    (λ accepted chain. λ marked.
-    accounted_for c.args.reading before after chain (awake_at c.args.reading before accepted) marked)
+    held g c (IsConsistent before → IsAccounted c.args.reading before after)
+    (λ accepted chain. λ consistent.
+    accounted_for c.args.reading before after chain (awake_at c.args.reading before accepted) consistent)
 
 pub returns-clause-small : goal.returns-clause-small
 returns-clause-small g c =
@@ -97,9 +97,9 @@ returns-clause-small g c =
     held g c (StaysSmall c.args.reading before after)
     (λ accepted chain. stays_small c.args.reading before after chain)
 
-pub returns-clause-marked : goal.returns-clause-marked
-returns-clause-marked g c =
-    advanced_marked c.args.who c.args.reading c.args.self.now (end g c) c.advance.result
+pub returns-clause-consistent : goal.returns-clause-consistent
+returns-clause-consistent g c =
+    advanced_consistent c.args.who c.args.reading c.args.self.now (end g c) c.advance.result
     (returns-clause-answer g c)
 
 pub returns-clause-rest : goal.returns-clause-rest

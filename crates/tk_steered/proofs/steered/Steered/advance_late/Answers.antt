@@ -1,7 +1,7 @@
 use Rattle.std.proofs.Common.{◌≡◌, subst, true}
 use Rattle.std.specs.Prelude.{IfOk, None}
 use Rattle.tk_keeper.specs.Room.{HasAdded, HasRoom, IsShort, keeper_state}
-use Rattle.tk_ntp.specs.Account.{IsMarked}
+use Rattle.tk_ntp.specs.Account.{IsConsistent}
 use Rattle.tk_ntp.specs.Advance.{IsNoneDue}
 use Rattle.tk_ntp.specs.Late.{IsAdvancedLate, second_begun_late}
 use Rattle.tk_ntp.specs.LateLaws.{IsAccountedLate, IsNumberedLate, IsOffsetKeptLate, IsTaiKeptLate}
@@ -15,7 +15,7 @@ use Rattle.tk_ntp.proofs.TaiKept.{tai_kept_late}
 use Rattle.tk_steered.specs.Kept.{IsAdvancedTo, SteeredKeeper, steered_of}
 use Rattle.tk_steered.proofs.Continued.{continued}
 use Rattle.tk_steered.proofs.Stopped.{advanced_rest}
-use Rattle.tk_steered.proofs.StoppedLate.{late_marked}
+use Rattle.tk_steered.proofs.StoppedLate.{late_consistent}
 use Rattle.tk_steered.proofs.steered.Steered.advance_late.Goals as goal
 
 abbrev end : (g : _) → goal.After-advance g → SteeredKeeper
@@ -78,13 +78,13 @@ pub returns-clause-sum : goal.returns-clause-sum
 returns-clause-sum g c =
     let before = steered_of c.args.self.now in
     let after = steered_of (end g c) in
-    held g c (IsMarked before → IsAccountedLate c.args.reading before after)
-    (λ accepted chain. λ marked.
-    accounted_late c.args.reading before after chain accepted marked)
+    held g c (IsConsistent before → IsAccountedLate c.args.reading before after)
+    (λ accepted chain. λ consistent.
+    accounted_late c.args.reading before after chain accepted consistent)
 
-pub returns-clause-marked : goal.returns-clause-marked
-returns-clause-marked g c =
-    late_marked c.args.who c.args.reading c.args.self.now (end g c) c.advance.result
+pub returns-clause-consistent : goal.returns-clause-consistent
+returns-clause-consistent g c =
+    late_consistent c.args.who c.args.reading c.args.self.now (end g c) c.advance.result
     (returns-clause-answer g c)
 
 pub returns-clause-rest : goal.returns-clause-rest

@@ -3,7 +3,7 @@ use Rattle.tk_clock.specs.declared.command.Command.{Command}
 use Rattle.tk_clock.specs.declared.command.Command.TheVariants.{Update}
 use Rattle.tk_steered.specs.Kept.{IsAppliedBy}
 use Rattle.tk_steered.proofs.Answered.{applied_ok}
-use Rattle.tk_steered.proofs.Laws.{command_marked, command_small, command_sum, command_woken}
+use Rattle.tk_steered.proofs.Laws.{command_consistent, command_small, command_sum, command_woken}
 use Rattle.tk_steered.proofs.Numbered.{applied}
 use Rattle.tk_steered.proofs.steered.Steered.apply.Goals as goal
 
@@ -34,9 +34,9 @@ returns-in-Update-clause-woken g c =
     command_woken c.args.who c.args.reading c.args.self.now c.apply_update-done.new.self c.args.cmd
     c.numbered.result (returns-in-Update-clause-answer g c)
 
-pub returns-in-Update-clause-marked : goal.returns-in-Update-clause-marked
-returns-in-Update-clause-marked g c =
-    command_marked c.args.who c.args.reading c.args.self.now c.apply_update-done.new.self c.args.cmd
+pub returns-in-Update-clause-consistent : goal.returns-in-Update-clause-consistent
+returns-in-Update-clause-consistent g c =
+    command_consistent c.args.who c.args.reading c.args.self.now c.apply_update-done.new.self c.args.cmd
     c.numbered.result (returns-in-Update-clause-answer g c)
 
 pub returns-clause-answer : goal.returns-clause-answer
@@ -64,7 +64,7 @@ returns-clause-woken g c =
     command_woken c.args.who c.args.reading c.args.self.now c.apply_any-done.new.self c.args.cmd
     c.numbered-2.result (returns-clause-answer g c)
 
-pub returns-clause-marked : goal.returns-clause-marked
-returns-clause-marked g c =
-    command_marked c.args.who c.args.reading c.args.self.now c.apply_any-done.new.self c.args.cmd
+pub returns-clause-consistent : goal.returns-clause-consistent
+returns-clause-consistent g c =
+    command_consistent c.args.who c.args.reading c.args.self.now c.apply_any-done.new.self c.args.cmd
     c.numbered-2.result (returns-clause-answer g c)

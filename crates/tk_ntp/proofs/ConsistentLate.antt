@@ -2,21 +2,21 @@
 use Rattle.std.proofs.Common.{◌≡◌, ◌∙◌, sym, subst, ℕ, ◌≤◌, false, arith}
 use Rattle.tk_counter.specs.Counter.{half}
 use Rattle.tk_clock.specs.Reach.{distance}
-use Rattle.tk_ntp.specs.Account.{IsMarked}
+use Rattle.tk_ntp.specs.Account.{IsConsistent}
 use Rattle.tk_ntp.specs.Advance.{Arrived, Begins, leapt}
 use Rattle.tk_ntp.specs.Late.{second_begun_late, with_late_second, IsAdvancedLate}
 use Rattle.tk_ntp.specs.Second.{leap_at}
 use Rattle.tk_ntp.specs.Steering.{commands}
 use Rattle.tk_ntp.specs.SteeredClock.{SteeredClock, given_change, rate_in_force}
 use Rattle.tk_ntp.proofs.Account.{never}
-use Rattle.tk_ntp.proofs.Made.{change-made, leapt-asleep, leapt-mark}
-use Rattle.tk_ntp.proofs.Marked.{none_nearer}
+use Rattle.tk_ntp.proofs.Made.{change-made, leapt-asleep, leapt-last_account}
+use Rattle.tk_ntp.proofs.Consistent.{none_nearer}
 use Rattle.tk_ntp.proofs.Often.{given_change-near, IsNear, joined, leapt-near}
 use Rattle.tk_ntp.proofs.Passed.{near-ahead}
 
 -- a second that has begun late: its commands are at the reading of the call
 record IsBegunAt (reading : ℕ) (before after : SteeredClock) : Type 0 where
-  mark : after.mark ≡ reading
+  last_account : after.last_account ≡ reading
   near : IsNear reading before.clock after.clock
   asleep : after.clock.base.asleep ≡ before.clock.base.asleep
 
@@ -28,7 +28,7 @@ begun-late at reading steered =
     let after = leapt reading leap begun in
     let change = commands after.clock.base.counter (rate_in_force after.clock) after.steering in
     record {
-      mark = leapt-mark reading leap begun;
+      last_account = leapt-last_account reading leap begun;
       near = joined reading steered.clock after.clock (given_change reading change after.clock)
           (leapt-near reading leap begun) (given_change-near reading change after.clock);
       asleep = (change-made reading change after.clock).asleep ∙ leapt-asleep reading leap begun;
@@ -39,7 +39,7 @@ same_order n = omega arith
 
 -- clocks whose last account is at the reading of a call, up to which their seconds begin
 pub record IsAt (reading : ℕ) (steered : SteeredClock) : Type 0 where
-  pub mark : steered.mark ≡ reading
+  pub last_account : steered.last_account ≡ reading
   pub ahead : distance steered.clock.base reading ≤ half steered.clock.base.counter
   pub awake : steered.clock.base.asleep ≡ false
 
@@ -50,34 +50,34 @@ next-at at reading steered ahead awake =
     let next = second_begun_late at reading steered in
     let begun = begun-late at reading steered in
     record {
-      mark = begun.mark;
+      last_account = begun.last_account;
       ahead = near-ahead reading reading steered.clock next.clock begun.near
           (same_order (distance steered.clock.base reading)) ahead;
       awake = begun.asleep ∙ awake;
     }
 
-marked-at : (reading : ℕ) (before after : SteeredClock) → IsAdvancedLate reading before after →
-    IsAt reading before → IsMarked after
-marked-at reading before after (Arrived steered none) here =
+consistent-at : (reading : ℕ) (before after : SteeredClock) → IsAdvancedLate reading before after →
+    IsAt reading before → IsConsistent after
+consistent-at reading before after (Arrived steered none) here =
     let base = steered.clock.base in
     record {
-      ahead = subst (λ (mark : ℕ). distance base mark ≤ half base.counter) (sym here.mark)
+      ahead = subst (λ (last_account : ℕ). distance base last_account ≤ half base.counter) (sym here.last_account)
           here.ahead;
       asleep = λ is. absurd (never (sym is ∙ here.awake));
       nearer = λ other ahead reached.
-          subst (λ (mark : ℕ). distance base mark ≤ distance base other) (sym here.mark)
+          subst (λ (last_account : ℕ). distance base last_account ≤ distance base other) (sym here.last_account)
           (none_nearer reading steered none other ahead reached);
     }
-marked-at reading before after (Begins steered end at due rest) here =
-    marked-at reading (second_begun_late at reading steered) end rest
+consistent-at reading before after (Begins steered end at due rest) here =
+    consistent-at reading (second_begun_late at reading steered) end rest
     (next-at at reading steered here.ahead here.awake)
 
 -- the last account stays after the last command, and before the next second
-pub marked_late : (reading : ℕ) (before after : SteeredClock) →
+pub consistent_late : (reading : ℕ) (before after : SteeredClock) →
     IsAdvancedLate reading before after →
     distance before.clock.base reading ≤ half before.clock.base.counter →
-    before.clock.base.asleep ≡ false → IsMarked before → IsMarked after
-marked_late reading before after (Arrived steered none) ahead awake marked = marked
-marked_late reading before after (Begins steered end at due rest) ahead awake marked =
-    marked-at reading (second_begun_late at reading steered) end rest
+    before.clock.base.asleep ≡ false → IsConsistent before → IsConsistent after
+consistent_late reading before after (Arrived steered none) ahead awake consistent = consistent
+consistent_late reading before after (Begins steered end at due rest) ahead awake consistent =
+    consistent-at reading (second_begun_late at reading steered) end rest
     (next-at at reading steered ahead awake)

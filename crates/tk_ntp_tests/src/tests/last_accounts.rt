@@ -12,29 +12,42 @@ fn opened(rt: &impl Abort) -> SteeredClock {
 }
 
 /// Checks whether clocks with their last account at a reading are where the laws want them.
-fn marks(rt: &impl Abort, clock: Clock, numbers: SteeredNumbers, mark: u64, wanted: bool) {
-    let moved = SteeredNumbers { mark, ..numbers };
+fn check_consistent(
+    rt: &impl Abort,
+    clock: Clock,
+    numbers: SteeredNumbers,
+    last_account: u64,
+    wanted: bool,
+) {
+    let moved = SteeredNumbers {
+        last_account,
+        ..numbers
+    };
     let restored = SteeredClock::from_numbers(clock, moved).expect(rt, "numbers in range");
-    assert_same(rt, &(mark, restored.is_marked()), &(mark, wanted));
+    assert_same(
+        rt,
+        &(last_account, restored.is_consistent()),
+        &(last_account, wanted),
+    );
 }
 
 #[test]
 fn the_last_account_is_not_after_the_next_second(rt: HostRuntime) {
     let steered = opened(&rt);
-    assert_same(&rt, &steered.is_marked(), &true);
+    assert_same(&rt, &steered.is_consistent(), &true);
     let (clock, numbers) = (steered.clock(), steered.numbers());
-    for mark in [0, 1, 999_999_999, 1_000_000_000] {
-        marks(&rt, clock, numbers, mark, true);
+    for last_account in [0, 1, 999_999_999, 1_000_000_000] {
+        check_consistent(&rt, clock, numbers, last_account, true);
     }
-    for mark in [1_000_000_001, 1 << 62, u64::MAX] {
-        marks(&rt, clock, numbers, mark, false);
+    for last_account in [1_000_000_001, 1 << 62, u64::MAX] {
+        check_consistent(&rt, clock, numbers, last_account, false);
     }
     let later = SteeredNumbers {
         next: 1_700_000_003,
         ..numbers
     };
-    marks(&rt, clock, later, 3_000_000_000, true);
-    marks(&rt, clock, later, 3_000_000_001, false);
+    check_consistent(&rt, clock, later, 3_000_000_000, true);
+    check_consistent(&rt, clock, later, 3_000_000_001, false);
 }
 
 #[test]
@@ -45,24 +58,24 @@ fn a_second_that_is_never_reached_leaves_half_the_range(rt: HostRuntime) {
         ..steered.numbers()
     };
     let half = u64::MAX / 2;
-    marks(&rt, steered.clock(), never, half, true);
-    marks(&rt, steered.clock(), never, half + 1, false);
+    check_consistent(&rt, steered.clock(), never, half, true);
+    check_consistent(&rt, steered.clock(), never, half + 1, false);
 }
 
 #[test]
 fn the_last_account_of_sleeping_clocks_is_their_last_command(rt: HostRuntime) {
     let mut steered = opened(&rt);
     assert_same(&rt, &steered.apply(500, Command::Suspend), &Ok(()));
-    assert_same(&rt, &steered.is_marked(), &true);
+    assert_same(&rt, &steered.is_consistent(), &true);
     let (clock, numbers) = (steered.clock(), steered.numbers());
-    marks(&rt, clock, numbers, 499, false);
-    marks(&rt, clock, numbers, 501, false);
+    check_consistent(&rt, clock, numbers, 499, false);
+    check_consistent(&rt, clock, numbers, 501, false);
 }
 
 #[test]
 fn late_seconds_leave_it_where_it_may_be(rt: HostRuntime) {
     let mut steered = opened(&rt);
     assert_same(&rt, &steered.advance_late(3_500_000_000), &Ok(()));
-    assert_same(&rt, &steered.numbers().mark, &3_500_000_000);
-    assert_same(&rt, &steered.is_marked(), &true);
+    assert_same(&rt, &steered.numbers().last_account, &3_500_000_000);
+    assert_same(&rt, &steered.is_consistent(), &true);
 }
