@@ -97,9 +97,9 @@
  *   read_counter(context) returns a reading. The function must read the counter after the loads
  *   that precede its call and before the loads that follow it. If the processor may reorder the
  *   reading, the function must prevent that:
- *   - x86-64: "lfence; rdtsc; lfence" or "rdtscp; lfence", if the TSC is constant and the same on
- *     all processors. The last lfence keeps the second load of the sequence from running before
- *     the reading.
+ *   - x86-64: tkc_tsc_for_reader and tkc_tsc_for_writer below, if the TSC is constant and the same on
+ *     all processors. "lfence; rdtsc; lfence" serves both too, in 5 ns more: the last lfence keeps
+ *     the second load of the sequence from running before the reading.
  *   - AArch64: tkc_cntvct_for_reader and tkc_cntvct_for_writer below read CNTVCT_EL0. A fence of
  *     C11 orders no store before a read of this register, so a writer, after tkc_page_begin, needs
  *     the second one.
@@ -181,6 +181,33 @@ typedef _Atomic uint64_t tkc_word;
 #define TKC_PAUSE() __asm__ __volatile__("isb" ::: "memory")
 #else
 #define TKC_PAUSE() ((void)0)
+#endif
+
+#if defined(__GNUC__) && defined(__x86_64__)
+/* Reads the TSC after all loads before the call, and before all loads after it. Its own load has an
+ * address that depends on the reading, and later loads come after this one. So unlike a second
+ * lfence it holds up nothing else (arch_counter_enforce_ordering in the kernel's arch/arm64). */
+static inline uint64_t tkc_tsc_for_reader(void *context)
+{
+	uint64_t reading;
+
+	(void)context;
+	__asm__ __volatile__("lfence; rdtsc; shlq $32, %%rdx; orq %%rdx, %0; movq %0, %%rdx; "
+			     "shrq $63, %%rdx; movq (%%rsp,%%rdx), %%rdx"
+			     : "=a"(reading)::"rdx", "cc", "memory");
+	return reading;
+}
+
+/* Reads the TSC also after the fence that tkc_page_begin ends with. */
+static inline uint64_t tkc_tsc_for_writer(void *context)
+{
+	uint64_t reading;
+
+	(void)context;
+	__asm__ __volatile__("lfence; rdtsc; shlq $32, %%rdx; orq %%rdx, %0"
+			     : "=a"(reading)::"rdx", "cc", "memory");
+	return reading;
+}
 #endif
 
 #if defined(__GNUC__) && defined(__aarch64__)

@@ -16,7 +16,6 @@
 #include <string.h>
 #include <time.h>
 #include <tkcore_page.h>
-#include <x86intrin.h>
 
 enum { ROUNDS = 100, READS = 50000, OTHERS = 3 };
 
@@ -26,17 +25,6 @@ static _Thread_local struct tkc_page_reader reader;
 static _Thread_local uint64_t sum; /* of what is read, so that it is read */
 static _Atomic uint64_t total;
 static atomic_int has_ended;
-
-static uint64_t read_counter(void *context)
-{
-	uint64_t reading;
-
-	(void)context;
-	_mm_lfence();
-	reading = __rdtsc();
-	_mm_lfence();
-	return reading;
-}
 
 static void need(uint32_t code)
 {
@@ -59,7 +47,7 @@ static void read_now(void)
 	struct tkc_time time;
 
 	for (int i = 0; i < READS; i++) {
-		need(tkc_page_now(&page, TKC_CLOCK_MONOTONIC, read_counter, NULL, &time));
+		need(tkc_page_now(&page, TKC_CLOCK_MONOTONIC, tkc_tsc_for_reader, NULL, &time));
 		sum += time.nsec;
 	}
 }
@@ -69,7 +57,7 @@ static void read_line(void)
 	struct tkc_time time;
 
 	for (int i = 0; i < READS; i++) {
-		need(tkc_page_reader_get(&reader, read_counter, NULL, &time));
+		need(tkc_page_reader_get(&reader, tkc_tsc_for_reader, NULL, &time));
 		sum += time.nsec;
 	}
 }
@@ -79,7 +67,7 @@ static void read_line_ns(void)
 	uint64_t time;
 
 	for (int i = 0; i < READS; i++) {
-		need(tkc_page_reader_ns(&reader, read_counter, NULL, &time));
+		need(tkc_page_reader_ns(&reader, tkc_tsc_for_reader, NULL, &time));
 		sum += time;
 	}
 }
@@ -111,7 +99,7 @@ static const struct job {
 static void publish(void)
 {
 	tkc_page_begin(&page);
-	need(tkc_clock_update(&clocks, read_counter(NULL)));
+	need(tkc_clock_update(&clocks, tkc_tsc_for_writer(NULL)));
 	tkc_page_publish_clock(&page, &clocks);
 }
 
@@ -186,7 +174,7 @@ static void open_all(void)
 	struct tkc_counter counter;
 
 	need(tkc_counter_from_hz(&counter, 64, UINT64_C(2500000000), 600));
-	need(tkc_clock_open(&clocks, &counter, read_counter(NULL), 1700000000, 0));
+	need(tkc_clock_open(&clocks, &counter, tkc_tsc_for_reader(NULL), 1700000000, 0));
 	tkc_page_init_clock(&page, &clocks);
 	need(tkc_page_reader_init(&reader, &page, TKC_CLOCK_MONOTONIC));
 }

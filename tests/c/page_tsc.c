@@ -15,9 +15,6 @@
 #include <stdio.h>
 #include <stdlib.h>
 #include <tkcore_page.h>
-#ifdef __x86_64__
-#include <x86intrin.h>
-#endif
 
 enum { READERS = 3, STEPS = 6, PAUSES = 208333 /* of the writer in a second, at most */ };
 
@@ -53,18 +50,8 @@ static uint64_t cycles_in_a_second(void)
 }
 #else
 #define COUNTER "the TSC"
-#define read_to_write read_counter
-
-static uint64_t read_counter(void *context)
-{
-	uint64_t reading;
-
-	(void)context;
-	_mm_lfence();
-	reading = __rdtsc();
-	_mm_lfence();
-	return reading;
-}
+#define read_counter tkc_tsc_for_reader
+#define read_to_write tkc_tsc_for_writer
 
 static uint64_t cycles_in_a_second(void)
 {

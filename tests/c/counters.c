@@ -1,6 +1,7 @@
 /* SPDX-License-Identifier: MIT OR Apache-2.0 */
 /*
- * Reads CNTVCT_EL0 by the functions of tkcore_page.h, on AArch64. No reading may be below an earlier
+ * Reads the processor's counter by the functions of tkcore_page.h: the TSC, which must be between two
+ * readings of the compiler's, or on AArch64 CNTVCT_EL0. There, no reading may be below an earlier
  * one, and the readings at two moments must differ by CNTFRQ_EL0 cycles for each second of the
  * system's clock between them, at most one cycle off. tests/c/counter_order compares the
  * instructions of by_reader and by_writer.
@@ -12,6 +13,15 @@
 #include <stdlib.h>
 #include <time.h>
 #include <tkcore_page.h>
+#ifdef __x86_64__
+#include <x86intrin.h>
+
+#define read_to_read tkc_tsc_for_reader
+#define read_to_write tkc_tsc_for_writer
+#else
+#define read_to_read tkc_cntvct_for_reader
+#define read_to_write tkc_cntvct_for_writer
+#endif
 
 enum { READS = 200000, NSEC = 1000000000 };
 
@@ -20,14 +30,36 @@ uint64_t by_writer(void *context);
 
 uint64_t by_reader(void *context)
 {
-	return tkc_cntvct_for_reader(context);
+	return read_to_read(context);
 }
 
 uint64_t by_writer(void *context)
 {
-	return tkc_cntvct_for_writer(context);
+	return read_to_write(context);
 }
 
+#ifdef __x86_64__
+/* Returns the TSC, which is read after all that precedes. */
+static uint64_t tsc_now(void)
+{
+	_mm_lfence();
+	return __rdtsc();
+}
+
+int main(void)
+{
+	for (int i = 0; i < READS; i++) {
+		uint64_t before = tsc_now(), reading = i % 2 ? by_reader(NULL) : by_writer(NULL);
+
+		if (reading >= before && reading <= tsc_now())
+			continue;
+		fprintf(stderr, "counters: read %d isn't between the readings next to it\n", i);
+		return EXIT_FAILURE;
+	}
+	puts("counters: the TSC was always between two readings");
+	return EXIT_SUCCESS;
+}
+#else
 static uint64_t system_ns(void)
 {
 	struct timespec now;
@@ -68,7 +100,7 @@ static void check_rate(const struct moment *one, const struct moment *other, uin
 
 	if (cycles + 1 >= least && cycles <= most + 1)
 		return;
-	fprintf(stderr, "cntvct: %" PRIu64 " cycles instead of %" PRIu64 " to %" PRIu64 "\n", cycles,
+	fprintf(stderr, "counters: %" PRIu64 " cycles instead of %" PRIu64 " to %" PRIu64 "\n", cycles,
 		least, most);
 	exit(EXIT_FAILURE);
 }
@@ -84,7 +116,7 @@ int main(void)
 		uint64_t reading = i % 2 ? by_reader(NULL) : by_writer(NULL);
 
 		if (reading < last) {
-			fprintf(stderr, "cntvct: read %d is below the one before\n", i);
+			fprintf(stderr, "counters: read %d is below the one before\n", i);
 			return EXIT_FAILURE;
 		}
 		last = reading;
@@ -93,6 +125,7 @@ int main(void)
 		;
 	other = look(by_reader);
 	check_rate(&one, &other, hz);
-	printf("cntvct: the counter of %" PRIu64 " Hz never went back\n", hz);
+	printf("counters: the counter of %" PRIu64 " Hz never went back\n", hz);
 	return EXIT_SUCCESS;
 }
+#endif
