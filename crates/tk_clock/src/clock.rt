@@ -138,7 +138,8 @@ impl Clock {
 
     /// Applies an update of the usual kind, after the tests of `check`: fewer than 2^31 cycles
     /// after the last command, during which neither MONOTONIC nor MONOTONIC_RAW gains two whole
-    /// seconds. Returns whether it did so; if not, nothing changes.
+    /// seconds, and with offsets of the usual size. Returns whether it did so; if not, nothing
+    /// changes.
     #[inline(always)]
     fn update_soon(&mut self, reading: u64) -> bool
         requires { IsEarly self.old reading Command.Update }
@@ -150,7 +151,24 @@ impl Clock {
         let Some(now) = self.base.forwarded_soon(reading) else {
             return false;
         };
-        self.take(now)
+        self.take_near(now)
+    }
+
+    /// Replaces the base by one that was advanced, if its offsets show that no clock is at its limit.
+    /// Returns whether it did so; if not, nothing changes.
+    #[inline(always)]
+    fn take_near(&mut self, now: ReadBase) -> bool
+        requires { IsForwarded self.old now }
+        ensures { ((result ≡ true)
+            × (state_value_refusal self.old now.last Command.Update ≡ None)
+            × (self.new ≡ effect self.old now.last Command.Update))
+            ⊎ ((result ≡ false) × (self.new ≡ self.old)) }
+    {
+        if !now.has_near_offsets() {
+            return false;
+        }
+        self.base.take_forward(now);
+        true
     }
 
     /// Applies any update after the tests of `check`. It is out of line, so that most updates don't

@@ -35,6 +35,11 @@ pub(crate) const MONOTONIC_LIMIT: u64 = MONOTONIC_END * NANOS_PER_SECOND;
 /// The limit of the other clocks, in ns.
 pub(crate) const CLOCK_LIMIT: u64 = SECONDS_END * NANOS_PER_SECOND;
 
+/// An offset from MONOTONIC, in ns. No clock with this offset or a lesser one is at its limit while
+/// MONOTONIC is below its own, and TAI isn't with this offset of REALTIME.
+pub(crate) const FAR_OFFSET: u64 = (SECONDS_END - MONOTONIC_END - TAI_OFFSET_LIMIT as u64)
+    * NANOS_PER_SECOND;
+
 /// The most commands that are counted: 2^63 - 1.
 pub const COUNTED_LIMIT: u64 = (1 << 63) - 1;
 

@@ -11,7 +11,7 @@ ghost use Rattle.tk_clock.specs.Uptime.{with_uptime};
 use super::ReadBase;
 use crate::amount::{Amount, NARROW_CYCLES};
 use crate::command::Command;
-use crate::limits::{CLOCK_LIMIT, MONOTONIC_END, sets_real};
+use crate::limits::{CLOCK_LIMIT, FAR_OFFSET, MONOTONIC_END, sets_real};
 
 impl ReadBase {
     /// Returns the base with its amounts advanced to a reading (`timekeeping_forward_now`). Nothing
@@ -105,6 +105,18 @@ impl ReadBase {
         }
         // TAI is never below REALTIME
         is_at_limit(now + self.tai_nanos(), self.real_offset)
+    }
+
+    /// Returns whether the offsets alone show that no clock is at its limit at the last reading.
+    #[tactic(auto, unfolding(crate::specs::Limits::is_past_limit))]
+    #[inline(always)]
+    pub fn has_near_offsets(&self) -> bool
+        ensures { result ≡ true →
+            is_past_limit (λ clock. base_value self.now clock self.now.last) Command.Update ≡ false }
+    {
+        // MONOTONIC is below its limit, and the TAI offset is at most the greatest one
+        let _low = (self.monotonic_now(), self.tai_nanos());
+        self.boot_offset <= FAR_OFFSET && self.real_offset <= FAR_OFFSET
     }
 
     /// Returns the base with another multiplier, starting at its last reading.
