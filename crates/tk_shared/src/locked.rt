@@ -173,6 +173,7 @@ fn accept(
     ensures idle { writer.new.since ≡ None }
     ensures accepted { IsAcceptedAt writer.old.since writer.old.commands reading
         writer.new.commands }
+    ensures log { writer.new.log ≡ writer.old.log }
 {
     writer.accept(notice, reading);
 }
