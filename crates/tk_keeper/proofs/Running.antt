@@ -102,6 +102,18 @@ room_left before after entry (Err refusal) left stated less some enough =
     (sym stated.1)
     (same_room left (length before.journal.entries) before.spare enough)
 
+-- an accepted event takes the capacity of one, and a refused one takes none
+pub takes_one : (before after : Keeper) (entry : Entry) (result : Result ℕ Refusal) (left : ℕ) →
+    IsAnswer before entry result after →
+    IfOk result (λ _. 0 < before.spare → after.spare + 1 ≡ before.spare) → 0 < left →
+    min left (listed_most - length before.journal.entries) ≤ before.spare →
+    after.spare + accepted_count after.journal ≡ before.spare + accepted_count before.journal
+takes_one before after entry (Ok number) left stated less some enough =
+    let lower = less (finds_room before.journal entry left before.spare some enough stated.0) in
+    omega (arith, lower, length_push before.journal.entries entry, ap accepted_count stated.1)
+takes_one before after entry (Err refusal) left stated less some enough =
+    ap (λ (k : Keeper). k.spare + accepted_count k.journal) stated.1
+
 -- the run of the events, starting at one of them
 pub run-next : (journal after : Journal) (events : List Entry) (k : ℕ) (answer : Result ℕ Refusal)
     (none : Entry) → k < length events →

@@ -79,7 +79,7 @@ announces slots id me odd is up s r _ at _ =
       tt,
       stores s r id odd me.0 (Announced now) known.0 refl (omega arith, omega arith)
           (known.0, known.1, refl, known.3),
-      (refl, refl),
+      (refl, refl, refl),
     )
 
 pub accepts : (slots id : ℕ) (me : Seated) (even reading : ℕ) → IsAnnounced me.0 →
@@ -113,7 +113,7 @@ accepts slots id me even reading is up s r _ at _ =
           (life_command from r.commands r.log t answered (omega arith) r.alive) r.turn
           (λ seat apart own. absurd (apart (own ∙ sym known.0)))
           (known.0, ap (λ (l : List Taken). l ++ t ∷ []) known.1, refl, known.3),
-      (refl, (from, now, refl, omega arith, refl)),
+      (refl, (from, now, refl, omega arith, refl), refl),
     )
 
 pub withdraws : (slots id : ℕ) (me : Seated) (even : ℕ) → IsAnnounced me.0 →

@@ -17,12 +17,14 @@ Seated = Me (Unit {0}) View
 
 -- a command is announced
 abbrev pub announced : Move → Seated → ℕ → Seated → Type 0
-announced move old found new = (new.0.commands ≡ old.0.commands) × IsAnnounced new.0
+announced move old found new =
+    (new.0.commands ≡ old.0.commands) × (new.0.log ≡ old.0.log) × IsAnnounced new.0
 
 -- the announced command was accepted at this reading
 abbrev pub accepted : ℕ → Move → Seated → ℕ → Seated → Type 0
 accepted reading move old found new = IsIdle new.0
     × IsAcceptedAt (Some (from_by old.0.role)) old.0.commands reading new.0.commands
+    × (new.0.log ≡ old.0.log)
 
 -- the announced command was refused
 abbrev pub withdrawn : Move → Seated → ℕ → Seated → Type 0

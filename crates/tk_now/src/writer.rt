@@ -55,7 +55,7 @@ impl NoticeWriter {
         requires idle { self.old.since ≡ None }
         ensures announced { IsSome self.new.since }
         ensures same { (self.new.notice ≡ self.old.notice)
-            × (self.new.commands ≡ self.old.commands) }
+            × (self.new.commands ≡ self.old.commands) × (self.new.log ≡ self.old.log) }
     {
         // 1. No reading is listed until the command ends.
         let odd = 2 * self.number + 1;
@@ -97,6 +97,7 @@ impl NoticeWriter {
         ensures notice { self.new.notice ≡ self.old.notice }
         ensures idle { self.new.since ≡ None }
         ensures accepted { IsAcceptedAt self.old.since self.old.commands reading self.new.commands }
+        ensures log { self.new.log ≡ self.old.log }
     {
         // 3. It counts.
         self.number += 1;
@@ -179,6 +180,7 @@ fn accept_reading<R: NamesReading, A: Allocator>(
     ensures notice { look.new.seat.table_id ≡ look.old.seat.table_id }
     ensures accepted { IsAcceptedAt (Some (from_by look.old.seat.me.0.role))
         look.old.seat.me.0.commands reading look.new.seat.me.0.commands }
+    ensures log { look.new.seat.me.0.log ≡ look.old.seat.me.0.log }
     ensures idle { IsIdle look.new.seat.me.0 }
 {
     notice

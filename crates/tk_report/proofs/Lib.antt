@@ -9,5 +9,6 @@ pub mod Journals
 pub mod Beginnings
 pub mod KeptClocks
 pub mod SteeredLines
+pub mod SteeredBegan
 pub mod Starts
 pub mod Replies

@@ -42,3 +42,16 @@ pub IsRun-end : {S : Type 0} (Does : S → Row → S → Type 0) (first : S) (al
     (to_come : Rows) → IsRun Does first all now to_come → to_come ≡ Ok [] →
     HasDone Does first all now
 IsRun-end Does first all now to_come run none = run.gives [] now none refl
+
+-- the part of a value that stays in each row stays in all rows
+module _ {S T : Type 0} (part : S → T) (Does : S → Row → S → Type 0)
+    (each : (a : S) (row : Row) (b : S) → Does a row b → part b ≡ part a) where
+  stays-after : (rows : List Row) (before after : S) → IsAfterRows Does before rows after →
+      part after ≡ part before
+  stays-after [] before after same = ap part same
+  stays-after (row ∷ rows) before after (middle, step, rest) =
+      stays-after rows middle after rest ∙ each before row middle step
+
+  pub stays-done : (all : Rows) (before after : S) → HasDone Does before all after →
+      part after ≡ part before
+  stays-done all before after (rows, known, run) = stays-after rows before after run

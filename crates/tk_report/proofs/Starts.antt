@@ -1,7 +1,8 @@
 -- The report and the journal of a script, by the way in which its clocks begin.
 use Rattle.std.proofs.Common.{◌≡◌, ◌∙◌, ℕ, List, sym, ap, subst}
-use Rattle.std.specs.Prelude.{Option, Result, Ok, Err, MatchResult}
+use Rattle.std.specs.Prelude.{IfOk, Option, Result, Ok, Err, MatchResult}
 use Rattle.tk_clock.specs.Journal.{Journal}
+use Rattle.tk_clock.specs.Legal.{Beginning}
 use Rattle.tk_script.specs.declared.opening.Start.{Start}
 use Rattle.tk_script.specs.declared.opening.Start.TheVariants.{Opened, Steered, Running, Continued}
 use Rattle.tk_script.specs.declared.row.Row.{Row}
@@ -11,6 +12,7 @@ use Rattle.tk_script.specs.Grammar.{Fails, Gives, Parse, parse_of}
 use Rattle.tk_script.specs.Start.{journal_at}
 use Rattle.tk_report.specs.declared.plain_start.PlainStart.{PlainStart}
 use Rattle.tk_report.specs.declared.plain_start.PlainStart.TheVariants as starts
+use Rattle.tk_report.specs.Began.{began_by}
 use Rattle.tk_report.specs.Beginnings.{IsSteeredAs, start_of}
 use Rattle.tk_report.specs.Folding.{rule_of}
 use Rattle.tk_report.specs.Report.{Rule, IsPlainReportOfRows, differences_of}
@@ -162,3 +164,31 @@ journal-opened bytes start all journal_in (Ok keeper) opens known =
     known
 journal-opened bytes start all journal_in (Err fault) opens fails =
     fails-opened bytes start all fault opens fails
+
+-- the start of the past of steered clocks is the script's
+pub began-steered : (start : Start) (first : SteeredKeeper) → IsSteeredAs start first →
+    first.keeper.began ≡ began_by start
+began-steered (Opened opening) first begins = absurd begins
+began-steered (Running clock front) first begins = absurd begins
+began-steered (Steered opening hz) first begins =
+    ap (λ (k : SteeredKeeper). k.keeper.began) begins
+began-steered (Continued clock front) first begins =
+    ap (λ (k : SteeredKeeper). k.keeper.began) begins
+
+began-read : (start : Start) (all : Rows) (began : Beginning) → began ≡ began_by start →
+    IfOk (opened_with start all) (λ parse. began ≡ began_by parse.start)
+began-read start (Ok rows) began is = is
+began-read start (Err fault) began is = tt
+
+-- the start of the past of the clocks that the bytes of a script begin
+pub began-opened : {A : Type 0} (bytes : List ℕ) (start : Start) (all : Rows)
+    (began_in : A → Beginning) (result : Result A ScriptError) →
+    parse_of bytes ≡ opened_with start all →
+    IfOk result (λ keeper. began_in keeper ≡ began_by start) →
+    IfOk result (λ keeper. IfOk (parse_of bytes)
+    (λ parse. began_in keeper ≡ began_by parse.start))
+began-opened bytes start all began_in (Ok keeper) opens is =
+    subst (λ (read : Result Parse ScriptError). IfOk read
+    (λ parse. began_in keeper ≡ began_by parse.start)) (sym opens)
+    (began-read start all (began_in keeper) is)
+began-opened bytes start all began_in (Err fault) opens is = tt

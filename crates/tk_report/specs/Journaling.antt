@@ -9,9 +9,10 @@ use Rattle.tk_report.specs.Report.{after}
 use Rattle.tk_script.specs.declared.row.Row.{Row}
 use Rattle.tk_script.specs.Start.{most_front}
 
--- the clocks after one more record
+-- the clocks after one more record: the start of their past stays
 abbrev pub IsJournaled : Keeper → Row → Keeper → Type 0
-IsJournaled before row next = next.journal ≡ after first_refusal before.journal row
+IsJournaled before row next =
+    (next.journal ≡ after first_refusal before.journal row) × (next.began ≡ before.began)
 
 -- this many more commands can be counted
 abbrev pub HasRoom : ℕ → Keeper → Type 0
@@ -21,4 +22,4 @@ HasRoom more keeper = accepted_count keeper.journal + more ≤ most_front + 2 ^ 
 pub leaves_room : (later : ℕ) (before next : Keeper) (row : Row) →
     IsJournaled before row next → HasRoom (later + 1) before → HasRoom later next
 leaves_room later before next row same room =
-    omega (arith, ap accepted_count same, counted_after first_refusal before.journal row, room)
+    omega (arith, ap accepted_count same.0, counted_after first_refusal before.journal row, room)

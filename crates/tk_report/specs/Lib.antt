@@ -5,6 +5,7 @@ pub mod Rows
 pub mod Report
 pub mod Lines
 pub mod SteeredReport
+pub mod Began
 pub mod Beginnings
 pub mod Counts
 pub mod Reports

@@ -1,8 +1,9 @@
 //! Makes the clocks after the commands of a script.
-ghost use Rattle.std.specs.Prelude.{MatchResult};
+ghost use Rattle.std.specs.Prelude.{◌≡◌, IfOk, MatchResult};
 ghost use Rattle.tk_script.specs.Coming.{IsReady, coming, opened_with};
 ghost use Rattle.tk_script.specs.Grammar.{Fails, Gives, parse_of};
 ghost use Rattle.tk_script.specs.Start.{IsOpenable, journal_at};
+ghost use Rattle.tk_report.specs.Began.{began_by};
 ghost use Rattle.tk_report.specs.Beginnings.{start_of};
 ghost use Rattle.tk_report.specs.AllRows.{IsJournalOf, journal_after};
 
@@ -29,9 +30,11 @@ pub(crate) const CALLER: u32 = 0;
 /// Returns the script's first fault, in the order of `ScriptError`. `Memory` may replace any other
 /// result.
 pub fn keeper_of(alloc: Global, script: &[u8]) -> Result<Timekeeper, ScriptError>
-    ensures { MatchResult result
+    ensures answer { MatchResult result
         (λ keeper. IsJournalOf (parse_of script.now) keeper.journal)
         (λ error. Fails error (parse_of script.now)) }
+    ensures began { IfOk result (λ keeper.
+        IfOk (parse_of script.now) (λ parse. keeper.began ≡ began_by parse.start)) }
 {
     let (start, mut rows) = RowReader::open(alloc, script)?;
     keeper_after(alloc, start, &mut rows)
@@ -53,9 +56,10 @@ pub fn keeper_after<A: Allocator + Copy>(
 ) -> Result<Timekeeper<A>, ScriptError>
     requires opens { IsOpenable start }
     requires ready { IsReady rows.old }
-    ensures { MatchResult result
+    ensures answer { MatchResult result
         (λ keeper. IsJournalOf (opened_with start (coming rows.old)) keeper.journal)
         (λ error. Fails error (coming rows.old)) }
+    ensures began { IfOk result (λ keeper. keeper.began ≡ began_by start) }
 {
     match begin(alloc, start) {
         Beginning::Plain(start) => plain_after(alloc, start, rows),
@@ -71,8 +75,9 @@ fn plain_after<A: Allocator + Copy>(
 ) -> Result<Timekeeper<A>, ScriptError>
     requires opens { IsOpenable (start_of start) }
     requires ready { IsReady rows.old }
-    ensures { Gives (λ keeper. keeper.journal) result
+    ensures answer { Gives (λ keeper. keeper.journal) result
         (journal_after (journal_at (start_of start)) (coming rows.old)) }
+    ensures began { IfOk result (λ keeper. keeper.began ≡ began_by (start_of start)) }
 {
     let mut keeper = start.keeper(alloc);
     obey_all(&mut keeper, rows)?;

@@ -1,6 +1,7 @@
 ghost use Rattle.std.specs.Prelude.{◌≡◌};
 ghost use Rattle.tk_clock.specs.Journal.{accepted_count};
 ghost use Rattle.tk_clock.specs.State.{state_of};
+ghost use Rattle.tk_report.specs.Began.{began_by};
 ghost use Rattle.tk_report.specs.Beginnings.{start_of};
 ghost use Rattle.tk_script.specs.Start.{IsOpenable, journal_at};
 
@@ -39,7 +40,8 @@ impl PlainStart {
     /// Returns the clocks with a journal that has no entries.
     pub(crate) fn keeper<A: Allocator + Copy>(self, alloc: A) -> Timekeeper<A>
         requires { IsOpenable (start_of self) }
-        ensures { result.journal ≡ journal_at (start_of self) }
+        ensures journal { result.journal ≡ journal_at (start_of self) }
+        ensures began { result.began ≡ began_by (start_of self) }
     {
         match self {
             PlainStart::Opened(opening) => {

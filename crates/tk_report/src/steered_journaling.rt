@@ -1,5 +1,5 @@
 //! Makes the clocks after the commands of a script whose clocks a discipline steers.
-ghost use Rattle.std.specs.Prelude.{MatchResult};
+ghost use Rattle.std.specs.Prelude.{◌≡◌, IfOk, MatchResult};
 ghost use Rattle.tk_report.specs.SteeredReport.{IsSteeredJournalOfRows};
 ghost use Rattle.tk_script.specs.Coming.{IsReady, coming};
 ghost use Rattle.tk_script.specs.Grammar.{Fails};
@@ -19,9 +19,10 @@ pub(crate) fn steered_after<A: Allocator + Copy>(
     rows: &mut RowReader<'_>,
 ) -> Result<Timekeeper<A>, ScriptError>
     requires { IsReady rows.old }
-    ensures { MatchResult result
+    ensures answer { MatchResult result
         (λ keeper. IsSteeredJournalOfRows first (coming rows.old) keeper.journal)
         (λ error. Fails error (coming rows.old)) }
+    ensures began { IfOk result (λ keeper. keeper.began ≡ first.keeper.began) }
 {
     let mut clocks = first;
     obey_all(&mut clocks, rows)?;

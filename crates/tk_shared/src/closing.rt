@@ -160,7 +160,7 @@ fn take_in<L: Named, R: Wait>(
         accepted: _,
     } = caller;
     shared.page.tell(rt, &mut writers.page, &mut viewer);
-    shared.latch.tell(&mut writers.latch, &mut reader);
+    writers.latch.tell(&shared.latch, &mut reader);
     writers.notice.take_in(&shared.notice, notice_reader);
     writers.folds.show(&shared.folds, &mut folds, folded);
     all.merge(share);

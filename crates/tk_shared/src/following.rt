@@ -96,7 +96,7 @@ pub(crate) fn inform<L: Named, R: Wait>(
     ensures more { caller.old.folded ≤ folded }
 {
     shared.page.tell(rt, &mut writers.page, &mut caller.viewer);
-    shared.latch.tell(&mut writers.latch, &mut caller.reader);
+    writers.latch.tell(&shared.latch, &mut caller.reader);
     let reader = &mut caller.notice_reader;
     writers.notice.tell(&shared.notice, reader);
     writers.folds.show(&shared.folds, &mut caller.folds, folded);

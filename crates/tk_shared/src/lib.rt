@@ -25,6 +25,7 @@
 
 mod caller;
 mod closing;
+mod command_writer;
 mod counter;
 mod fault;
 mod folds;
@@ -39,6 +40,7 @@ mod parts;
 mod prepared;
 mod shared_keeper;
 mod shared_reader;
+mod snapshot_writer;
 
 pub use caller::Caller;
 pub use closing::{Closed, Missing};

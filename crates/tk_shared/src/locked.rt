@@ -1,9 +1,8 @@
 //! The value that the lock protects, and the calls on it.
-ghost use Rattle.std.specs.Prelude.{◌≡◌, ◌+◌, ◌-◌, ◌^◌, ◌<◌, ◌≤◌, max, ◌++◌, ◌∷◌, [], length, MatchResult, IsSome, None};
+ghost use Rattle.std.specs.Prelude.{◌≡◌, ◌-◌, ◌≤◌, max, MatchResult};
 ghost use Rattle.tk_clock.specs.Folding.{folded_by};
 ghost use Rattle.tk_clock.specs.Journal.{accepted_count};
 ghost use Rattle.tk_clock.specs.Limits.{counted_most};
-ghost use Rattle.tk_now.specs.Moments.{IsAcceptedAt};
 ghost use Rattle.tk_shared.specs.Callers.{IsAccepted, IsFolded, IsInformed, IsKnownBy, IsRefused, IsSameCaller};
 ghost use Rattle.tk_shared.specs.Opening.{AreNamed};
 ghost use Rattle.tk_shared.specs.Readings.{EndsAtReading, IsRefusedAtReading};
@@ -16,11 +15,8 @@ use crate::parts::{Shared, Writers};
 use std::marker::Model;
 use std::sync::Wait;
 use std::sync::ledger::{Book, Share};
-use tk_clock::{Command, Entry, Refusal, Snapshot};
+use tk_clock::{Command, Entry, Refusal};
 use tk_keeper::Timekeeper;
-use tk_latch::{Latch, LatchWriter};
-use tk_now::{Notice, NoticeWriter};
-use tk_page::Publisher;
 
 /// Contains the value under the lock.
 ///
@@ -57,9 +53,9 @@ impl<L: Named, C: Counter> Model for Locked<L, C> {
 
 impl<L: Named, C: Counter> Locked<L, C> {
     /// Applies a caller's command at the counter's reading, and publishes it on the page and then
-    /// on the latch, as `show_on_latch` requires. No call between these two waits. The command is
-    /// announced in the notice before its reading, and the announcement ends after both
-    /// publications, as `accept` requires.
+    /// on the latch, as `SnapshotWriter::publish` requires. No call between these two waits. The
+    /// command is announced in the notice before its reading, and the announcement ends after both
+    /// publications, as `CommandWriter::accept` requires.
     ///
     /// It reads the counter once, and waits for readers of the page. A refused command publishes
     /// nothing. It informs the caller of the number of folded entries too, so `Full` is never
@@ -98,20 +94,14 @@ impl<L: Named, C: Counter> Locked<L, C> {
                 return Err(refusal);
             }
         };
-        latch.tell(&mut self.writers.latch, &mut caller.reader);
+        self.writers.latch.tell(latch, &mut caller.reader);
         let entry = Entry { who, reading, cmd };
         let snapshot = self.keeper.snapshot();
         let (publisher, viewer) = (&mut self.writers.page, &mut caller.viewer);
         publisher.publish_for(rt, page, entry, &snapshot, viewer);
-        show_on_latch(latch, &mut self.writers.latch, snapshot, &self.writers.page);
-        accept(
-            notice,
-            &mut self.writers.notice,
-            reading,
-            &self.writers.page,
-            &self.writers.latch,
-        );
-        latch.tell(&mut self.writers.latch, &mut caller.reader);
+        self.writers.latch.publish(latch, snapshot, &self.writers.page);
+        self.writers.notice.accept(notice, reading, &self.writers.page, &self.writers.latch);
+        self.writers.latch.tell(latch, &mut caller.reader);
         self.writers.notice.tell(notice, &mut caller.notice_reader);
         self.book.add(&mut caller.share, 1);
         caller.accepted += 1;
@@ -153,41 +143,4 @@ impl<L: Named, C: Counter> Locked<L, C> {
         fold_writer.show(&shared.folds, fold_reader, folded);
         folded
     }
-}
-
-/// Ends the announced command, which was accepted at `reading` and is published on the page and on
-/// the latch. Until then it is announced.
-fn accept(
-    notice: &Notice,
-    writer: &mut NoticeWriter,
-    reading: u64,
-    publisher: &Publisher,
-    latch_writer: &LatchWriter,
-)
-    requires notice { writer.old.notice ≡ notice.now }
-    requires announced { IsSome writer.old.since }
-    requires room { length writer.old.commands < 2 ^ 63 }
-    requires on_page { length publisher.now.journal.entries ≡ length writer.old.commands }
-    requires on_latch { length latch_writer.now.publications ≡ length writer.old.commands + 1 }
-    ensures notice { writer.new.notice ≡ writer.old.notice }
-    ensures idle { writer.new.since ≡ None }
-    ensures accepted { IsAcceptedAt writer.old.since writer.old.commands reading
-        writer.new.commands }
-{
-    writer.accept(notice, reading);
-}
-
-/// Publishes the next snapshot on the latch, after the page shows its command: then no publication
-/// that a fast read finds is missing on the page. The latch can count one publication for every
-/// command that a journal counts.
-fn show_on_latch(latch: &Latch, writer: &mut LatchWriter, snapshot: Snapshot, publisher: &Publisher)
-    requires on_page { length publisher.now.journal.entries ≡ length writer.old.publications }
-    requires latch { writer.old.latch ≡ latch.now }
-    requires counter { snapshot.base.counter ≡ latch.now.counter }
-    requires number { snapshot.front ≡ length writer.old.publications }
-    requires room { length writer.old.publications < counted_most + 1 }
-    ensures { writer.new
-        ≡ record writer.old { publications = writer.old.publications ++ snapshot ∷ [] } }
-{
-    writer.publish(latch, snapshot).unwrap()
 }

@@ -1,9 +1,11 @@
 //! The parts of a shared keeper.
 
+use crate::command_writer::CommandWriter;
 use crate::folds::FoldWriter;
+use crate::snapshot_writer::SnapshotWriter;
 use tk_keeper::Timekeeper;
-use tk_latch::{Latch, LatchReader, LatchWriter};
-use tk_now::{Notice, NoticeWriter};
+use tk_latch::{Latch, LatchReader};
+use tk_now::Notice;
 use tk_page::{Page, Publisher, Viewer};
 
 /// Contains what is outside the lock.
@@ -22,9 +24,9 @@ pub(crate) struct Writers {
     /// Publishes accepted commands on the page.
     pub(crate) page: Publisher,
     /// Publishes accepted commands on the latch.
-    pub(crate) latch: LatchWriter,
+    pub(crate) latch: SnapshotWriter,
     /// Announces commands in the notice.
-    pub(crate) notice: NoticeWriter,
+    pub(crate) notice: CommandWriter,
     /// Lists the folds.
     pub(crate) folds: FoldWriter,
 }

@@ -5,10 +5,12 @@ ghost use Rattle.tk_clock.specs.Limits.{listed_most};
 ghost use Rattle.tk_shared.specs.Opening.{IsOpened, IsOpenFault, IsReady, opening_fault, most_callers, start_of};
 ghost use Rattle.tk_shared.specs.Readings.{IsReading};
 
+use crate::command_writer::CommandWriter;
 use crate::counter::Counter;
 use crate::fault::{OpenError, OpenFault};
 use crate::folds::FoldWriter;
 use crate::parts::{Parts, Shared, Writers};
+use crate::snapshot_writer::SnapshotWriter;
 use std::alloc::{AllocError, Global};
 use std::marker::Model;
 use std::sync::Wait;
@@ -141,8 +143,8 @@ fn assemble<R: Wait>(
     };
     let writers = Writers {
         page: publisher,
-        latch: latch_writer,
-        notice: notice_writer,
+        latch: SnapshotWriter::new(latch_writer),
+        notice: CommandWriter::new(notice_writer),
         folds: fold_writer,
     };
     Ok(Parts {

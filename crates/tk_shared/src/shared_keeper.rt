@@ -11,6 +11,7 @@ ghost use Rattle.tk_shared.specs.Opening.{AreNamed, IsNamed, most_callers};
 ghost use Rattle.tk_shared.specs.Readings.{EndsAtReading, IsRefusedAtReading};
 
 use crate::caller::Caller;
+use crate::command_writer::CommandWriter;
 use crate::counter::Counter;
 use crate::fault::{OpenError, OpenFault};
 use crate::folds::FoldWriter;
@@ -25,7 +26,6 @@ use std::sync::ledger::Share;
 use std::sync::{Mutex, Wait};
 use tk_clock::{Command, Refusal, Snapshot};
 use tk_latch::{LatchReader, Moved};
-use tk_now::NoticeWriter;
 use tk_page::Viewer;
 
 /// Shares a timekeeper among callers in many threads.
@@ -191,7 +191,7 @@ fn make_callers<L: Named>(
     shared: &Shared,
     viewer: Viewer,
     readers: Vec<LatchReader>,
-    writer: &mut NoticeWriter,
+    writer: &mut CommandWriter,
     folds: &mut FoldWriter,
     shares: &mut Share<L>,
 ) -> Result<Vec<Caller<L>>, AllocError>
@@ -219,7 +219,7 @@ fn make_callers<L: Named>(
         callers.push_reserved(Caller {
             viewer: mine,
             reader,
-            notice_reader: shared.notice.reader(writer),
+            notice_reader: writer.reader(&shared.notice),
             folds: folds.reader(&shared.folds),
             share: shares.split_off(1, 0),
             id,

@@ -1,5 +1,7 @@
 //! Applies many commands in one call.
-ghost use Rattle.std.specs.Prelude.{◌≡◌, ◌<◌, ◌≤◌, length, MatchResult};
+ghost use Rattle.std.specs.Prelude.{◌≡◌, ◌+◌, ◌-◌, ◌<◌, ◌≤◌, length, max, min, IfOk, MatchResult};
+ghost use Rattle.tk_clock.specs.Journal.{accepted_count};
+ghost use Rattle.tk_clock.specs.Limits.{listed_most};
 ghost use Rattle.tk_clock.specs.Run.{run};
 
 use super::Timekeeper;
@@ -10,7 +12,7 @@ impl<A: Allocator + Copy> Timekeeper<A> {
     /// Applies events in order, and returns the result of each. It continues after a refused event.
     ///
     /// The call reserves all memory before it applies any event, so no event's result is
-    /// `Refusal::Memory`.
+    /// `Refusal::Memory`. An accepted event uses the capacity of one command; the rest stays.
     ///
     /// # Errors
     ///
@@ -23,6 +25,11 @@ impl<A: Allocator + Copy> Timekeeper<A> {
             × (self.new.journal ≡ (run self.old.journal events.now).journal))
             (λ refusal. (refusal ≡ Refusal.Memory) × (0 < length events.now)
             × (self.new.journal ≡ self.old.journal) × (self.old.spare ≤ self.new.spare)) }
+        // the reserved capacity is left, or used by an accepted event
+        ensures spare { let before = self.old.journal in
+            let wanted = min (length events.now) (listed_most - length before.entries) in
+            IfOk result (λ _. max self.old.spare wanted + accepted_count before
+            ≤ self.new.spare + accepted_count self.new.journal) }
     {
         let Ok(mut answers) = Vec::with_capacity(*self.entries.allocator(), events.len()) else {
             return Err(Refusal::Memory);

@@ -21,7 +21,7 @@ pub returns-then-is_steered : goal.returns-then-is_steered
 returns-then-is_steered g c =
     let known = journal-read (opened_with c.in_ok-start.start (coming c.in_ok-start.rows))
     (parse_of c.args.script.now) c.in_ok-steered.steered.journal c.in_ok-start.ensures.gives.1
-    c.in_ok-steered.ensures in
+    c.in_ok-steered.ensures.answer in
     trace-converted c.args.clock c.args.script.now c.args.stamps.now c.in_ok-steered.steered.journal
     (items c.in_ok-parsed.parsed) (λ text. text.items) c.convert.result known
     c.in_ok-parsed.ensures.gives c.convert.ensures
@@ -33,7 +33,7 @@ returns-in_err-items g c =
     let refused = c.in_err-items.ensures.gives in
     let known = journal-read (opened_with c.in_ok-start.start (coming c.in_ok-start.rows))
     (parse_of c.args.script.now) c.in_ok-keeper.keeper.journal c.in_ok-start.ensures.gives.1
-    c.in_ok-keeper.ensures in
+    c.in_ok-keeper.ensures.answer in
     rw (exit.1, exit.2, refused.1)
     (MayFault-stamps c.args.clock c.args.script.now c.args.stamps.now refused.0
     (whole-journal (parse_of c.args.script.now) c.in_ok-keeper.keeper.journal known) refused.2)
@@ -42,7 +42,7 @@ pub returns : goal.returns
 returns g c =
     let known = journal-read (opened_with c.in_ok-start.start (coming c.in_ok-start.rows))
     (parse_of c.args.script.now) c.in_ok-keeper.keeper.journal c.in_ok-start.ensures.gives.1
-    c.in_ok-keeper.ensures in
+    c.in_ok-keeper.ensures.answer in
     trace-converted c.args.clock c.args.script.now c.args.stamps.now c.in_ok-keeper.keeper.journal
     (items c.in_ok-items.items) (λ text. text.items) c.convert-2.result known
     c.in_ok-items.ensures.gives c.convert-2.ensures

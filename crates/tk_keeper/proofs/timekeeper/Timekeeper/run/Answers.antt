@@ -2,7 +2,7 @@ use Rattle.std.proofs.Common.{◌≡◌, ◌+◌, ◌-◌, ◌<◌, List, length
 use Rattle.tk_clock.specs.declared.command.Entry.{Entry}
 use Rattle.tk_clock.specs.declared.command.Command.TheVariants.{Update}
 use Rattle.tk_clock.specs.Run.{Run, run}
-use Rattle.tk_keeper.proofs.Running.{reply-answer, never_short, room_left, run-next, one_more}
+use Rattle.tk_keeper.proofs.Running.{reply-answer, never_short, room_left, takes_one, run-next, one_more}
 use Rattle.tk_keeper.proofs.timekeeper.Timekeeper.run.Goals as goal
 
 pub events-preserved : goal.events-preserved
@@ -22,6 +22,8 @@ events-preserved g c =
     let next = run-next before.journal after.journal events k c.apply.result none c.events-test.true
     reply in
     let fewer : length events - (k + 1) ≡ left - 1 = omega arith in
+    let taken = takes_one before after event c.apply.result left c.apply.ensures.answer
+    c.apply.ensures.spare some held.spare in
     let later = (run after.journal (drop (k + 1) events)).answers in
     record {
       answers = one_more _ c.events.answers.items _ later c.push_reserved.new.self.items
@@ -33,4 +35,5 @@ events-preserved g c =
       spare = rw fewer
           (room_left before after event c.apply.result left c.apply.ensures.answer
           c.apply.ensures.spare some held.spare);
+      taken = omega (arith, taken, held.taken);
     }

@@ -1,5 +1,6 @@
-use Rattle.std.proofs.Common.{◌≡◌, ◌+◌, ◌-◌, ◌≤◌, ◌++◌, length, min, drop}
+use Rattle.std.proofs.Common.{◌≡◌, ◌+◌, ◌-◌, ◌≤◌, ◌++◌, length, max, min, drop}
 use Rattle.std.specs.Prelude.{vec_len, vec_capacity}
+use Rattle.tk_clock.specs.Journal.{accepted_count}
 use Rattle.tk_clock.specs.Run.{run}
 use Rattle.tk_keeper.proofs.timekeeper.Timekeeper.run.Given as goal
 use Rattle.tk_clock.specs.Limits.{listed_most}
@@ -14,4 +15,7 @@ invariant-events g l = record {
   room : vec_len l.answers + (length l.events - l.event-index) ≤ vec_capacity l.answers;
   spare : min (length l.events - l.event-index) (listed_most - length l.self.journal.entries)
       ≤ l.self.spare;
+  taken : max l.fn.self.spare (min (length l.events) (listed_most - length l.fn.self.journal.entries))
+      + accepted_count l.fn.self.journal
+      ≤ l.self.spare + accepted_count l.self.journal;
 }

@@ -84,11 +84,11 @@ shown : (g : Over) (c : goal.After-caller-1 g) →
 shown g c = c.publish_for.ensures.journal
 
 latched : (g : Over) (c : goal.After-caller-1 g) →
-    c.show_on_latch.new.writer ≡ (with_entry (held_by g c) (entry_by g c)).latched
+    c.publish.new.self ≡ (with_entry (held_by g c) (entry_by g c)).latched
 latched g c =
     let pushed : Published × Snapshot → Published =
     λ p. record p.0 { publications = p.0.publications ++ p.1 ∷ [] } in
-    c.show_on_latch.ensures ∙ ap pushed (λ i. (c.tell-2.ensures.writer i, next_is g c i))
+    c.publish.ensures ∙ ap pushed (λ i. (c.tell-2.ensures.writer i, next_is g c i))
 
 at_rest : (g : Over) (c : goal.After-caller-1 g) →
     IsAtRest g.L.Named.notice.commands (followed_by c.self.inside.writers.page.journal (entry_by g c))
@@ -97,12 +97,12 @@ at_rest g c =
     let entry = entry_by g c in
     let informed = c.tell-4.ensures.same in
     informed_at_rest g.L.Named.notice.commands (followed_by c.self.inside.writers.page.journal entry)
-    c.accept.new.writer c.tell-4.new.self c.tell-4.new.self.log informed
+    c.accept.new.self c.tell-4.new.self c.tell-4.new.self.log informed
     (accepted_at_rest g.L.Named.notice.commands c.self.inside.writers.page.journal c.self.inside.writers.notice
-    c.accept.new.writer entry c.announce.new.self.since entry.reading c.self.invariant.3
+    c.accept.new.self entry c.announce.new.self.since entry.reading c.self.invariant.3
     (c.accept.ensures.notice ∙ c.announce.ensures.same.0) c.accept.ensures.idle refl
     (subst (λ (l : List Taken). IsAcceptedAt c.announce.new.self.since l entry.reading
-    c.accept.new.writer.commands) c.announce.ensures.same.1 c.accept.ensures.accepted)
+    c.accept.new.self.commands) c.announce.ensures.same.1 c.accept.ensures.accepted)
     (subst AreInOrder (ap (λ (a : Announcing). a.commands) informed) c.tell-4.ensures.told.order))
 
 pub returns-in-Err-clause-answer : goal.returns-in-Err-clause-answer
