@@ -99,8 +99,12 @@ impl<L: Named, C: Counter> Locked<L, C> {
         let snapshot = self.keeper.snapshot();
         let (publisher, viewer) = (&mut self.writers.page, &mut caller.viewer);
         publisher.publish_for(rt, page, entry, &snapshot, viewer);
-        self.writers.latch.publish(latch, snapshot, &self.writers.page);
-        self.writers.notice.accept(notice, reading, &self.writers.page, &self.writers.latch);
+        self.writers
+            .latch
+            .publish(latch, snapshot, &self.writers.page);
+        self.writers
+            .notice
+            .accept(notice, reading, &self.writers.page, &self.writers.latch);
         self.writers.latch.tell(latch, &mut caller.reader);
         self.writers.notice.tell(notice, &mut caller.notice_reader);
         self.book.add(&mut caller.share, 1);
