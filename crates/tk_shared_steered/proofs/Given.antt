@@ -45,7 +45,7 @@ informed_same one other seen learnt noticed h =
     IsInformed (record other { seen = j; learnt = l; noticed = n }) in
     let there : at one.seen one.learnt one.noticed = record {
       whole = h.whole;
-      last_account = h.last_account;
+      mark = h.mark;
       snapshots = h.snapshots;
       readings = h.readings;
       order = h.order;
