@@ -150,7 +150,7 @@ impl Session {
     {
         let clocks = clock.clock();
         // the contract of `tick` says that the clocks run
-        let _tick = clocks.tick();
+        let _ = clocks.tick();
         Session {
             clocks: CountedClocks::of(clocks, front),
             course: clock.course(),

@@ -139,7 +139,7 @@ impl<L: Named, C: Counter> Locked<L, C> {
     {
         let before = self.keeper.folded();
         inform(rt, shared, &mut self.writers, before, caller);
-        // Shows that the number of accepted commands is that small.
+        // so few commands were accepted
         let _ = self.keeper.len();
         let folded = self.keeper.fold(keep);
         let (fold_writer, fold_reader) = (&mut self.writers.folds, &mut caller.folds);

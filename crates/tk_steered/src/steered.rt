@@ -119,7 +119,7 @@ impl<A: Allocator + Copy> Steered<A> {
     {
         let keeper = &self.keeper;
         // its journal is legal
-        let _count = keeper.len();
+        let _ = keeper.len();
         keeper
     }
 
@@ -131,7 +131,7 @@ impl<A: Allocator + Copy> Steered<A> {
     {
         let keeper = self.keeper;
         // its journal is legal
-        let _count = keeper.len();
+        let _ = keeper.len();
         keeper
     }
 

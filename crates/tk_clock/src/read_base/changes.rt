@@ -115,7 +115,7 @@ impl ReadBase {
             is_past_limit (λ clock. base_value self.now clock self.now.last) Command.Update ≡ false }
     {
         // MONOTONIC is below its limit, and the TAI offset is at most the greatest one
-        let _low = (self.monotonic_now(), self.tai_nanos());
+        let _ = (self.monotonic_now(), self.tai_nanos());
         self.boot_offset <= FAR_OFFSET && self.real_offset <= FAR_OFFSET
     }
 

@@ -23,7 +23,7 @@ impl<A: Allocator + Copy> Timekeeper<A> {
     {
         let now = self.snapshot();
         // BOOTTIME is below its limit, and MONOTONIC isn't ahead of it
-        let _low = (self.clock.tick(), now.boot_offset());
+        let _ = (self.clock.tick(), now.boot_offset());
         time_of(now.sec(), now.frac(), now.desc().shift())
     }
 }

@@ -271,7 +271,7 @@ fn never_negative(snapshot: &Snapshot)
     ensures { (clock : ClockId) (reading : ℕ) →
         pos 0 ≤ℤ base_value snapshot.now.base clock reading }
 {
-    let _offsets = (
+    let _ = (
         snapshot.real_offset(),
         snapshot.boot_offset(),
         snapshot.tai(),

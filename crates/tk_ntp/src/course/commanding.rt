@@ -248,7 +248,7 @@ fn second_after(clock: &Clock, reading: u64) -> u64
 {
     let now = clock.snapshot(0);
     // REALTIME is below its limit at the last reading, and its offset isn't negative
-    let _low = (clock.tick(), now.real_offset());
+    let _ = (clock.tick(), now.real_offset());
     match now.nanos(ClockId::RealtimeCoarse, reading) {
         Ok(nanos) => nanos / NANOS_PER_SECOND + 1,
         Err(_) => unreachable!(),
