@@ -10,3 +10,4 @@ mod Ranges
 mod Restoring
 mod StepTests
 mod Stored
+mod StoredNumbers

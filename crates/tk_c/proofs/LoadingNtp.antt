@@ -1,6 +1,6 @@
 -- Steered clocks are loaded from the words of their clocks and of their numbers.
-use Rattle.std.proofs.Common.{arith, ◌≡◌, ◌⊎◌, ℕ, ◌≤◌, refl, Some, None, Ok, List, ◌++◌, length, take, drop, inl, inr, append-nil}
-use Rattle.std.proofs.lemmas.List.{take_at, drop_at, drop-drop, drop_all}
+use Rattle.std.proofs.Common.{arith, ◌≡◌, ◌⊎◌, ℕ, ◌-◌, refl, Some, None, Ok, List, ◌++◌, length, length-append, length-drop, take, drop, inl, inr}
+use Rattle.std.proofs.lemmas.List.{take_at}
 use Rattle.std.specs.Prelude.{MatchOption, Option}
 use Rattle.tk_counter.specs.Counter.{Counter, IsCounter}
 use Rattle.tk_clock.specs.Running.{IsRunning}
@@ -23,17 +23,11 @@ use Rattle.tk_c.proofs.Loading.{same_counter, same_frequency, same_tick}
 
 -- the words of clocks and of numbers in the place of 33 others
 pub joined : (words first rest : List ℕ) → length words ≡ 33 → length first ≡ 15 →
-    take 15 (first ++ drop 15 words) ++ (rest ++ drop 18 (drop 15 (first ++ drop 15 words)))
-    ≡ first ++ rest
+    take (length (first ++ drop 15 words) - 18) (first ++ drop 15 words) ++ rest ≡ first ++ rest
 joined words first rest all some =
-    let short : length words ≤ 33 = omega arith in
-    rw (
-      take_at first (drop 15 words) 15 some,
-      drop_at first (drop 15 words) 15 some,
-      drop-drop 18 15 words,
-      drop_all 33 words short,
-      append-nil rest,
-    ) refl
+    let long : length (first ++ drop 15 words) - 18 ≡ 15 =
+    omega (arith, all, some, length-append first (drop 15 words), length-drop 15 words) in
+    rw (long, take_at first (drop 15 words) 15 some) refl
 
 -- the answer for the words of clocks that were found, and of numbers
 module _ (first rest : List ℕ) (clock : CountedClock) (old new : NtpStorage) (code : ℕ) where

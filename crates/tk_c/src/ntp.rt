@@ -11,7 +11,7 @@ ghost use Rattle.tk_c.specs.NtpStorage.{ntp_storage};
 ghost use Rattle.tk_c.specs.Storage.{snapshot_storage};
 
 use crate::code::{Code, code_of_call};
-use crate::counted_ntp::{CountedNtp, SteeredCount};
+use crate::counted_ntp::CountedNtp;
 use crate::general_registers::store_snapshot;
 use crate::named::command_named;
 use crate::ntp_storage::{NtpStorage, store_ntp};
@@ -92,17 +92,19 @@ pub extern "C" fn tkc_ntp_open_at(
 }
 
 /// Writes opened clocks, for which no command is counted yet, or returns the code of their refusal.
+#[inline(always)]
 fn write_opened(out: &mut NtpStorage, opened: Result<SteeredClock, Refusal>) -> u32
     ensures { MatchResult opened
         (λ steered. (result ≡ number_of Done) × (out.new ≡ ntp_storage 0 steered))
         (λ refusal. (result ≡ number_of (code_of_refusal refusal)) × (out.new ≡ out.old)) }
 {
-    match opened {
+    // (by reference: the clocks are many words, which no call may copy)
+    match &opened {
         Ok(steered) => {
-            store_ntp(out, &SteeredCount { steered, front: 0 });
+            store_ntp(out, steered, 0);
             Code::Done.number()
         }
-        Err(refusal) => Code::from(refusal).number(),
+        Err(refusal) => Code::from(*refusal).number(),
     }
 }
 

@@ -2,11 +2,11 @@
 ghost use Rattle.std.specs.Prelude.{◌≡◌};
 ghost use Rattle.tk_c.specs.NtpStorage.{ntp_storage, discipline_storage};
 
-use crate::counted_ntp::{CountedNtp, SteeredCount};
+use crate::counted_ntp::CountedNtp;
 use crate::general_registers::store_base;
 use crate::storage::BaseStorage;
 use std::mem::size_of;
-use tk_ntp::{DisciplineNumbers, LagNumbers};
+use tk_ntp::{DisciplineNumbers, LagNumbers, SteeredClock};
 
 const _: () = prove!(size_of::<CountedNtp>() == size_of::<NtpStorage>());
 
@@ -75,42 +75,44 @@ pub struct NtpStorage {
     pub last_account: u64,
 }
 
-/// Writes steered clocks field by field, so that the call's frame contains no copy of them.
-#[inline(never)]
-pub(crate) fn store_ntp(out: &mut NtpStorage, counted: &SteeredCount)
-    ensures { out.new ≡ ntp_storage counted.now.front counted.now.steered }
+/// Writes steered clocks that have accepted `front` commands, one field at a time and never two
+/// neighbours in sequence. It is inline, so that the call's frame contains no copy of them.
+#[inline(always)]
+pub(crate) fn store_ntp(out: &mut NtpStorage, steered: &SteeredClock, front: u64)
+    ensures { out.new ≡ ntp_storage front steered.now }
 {
-    let clock = counted.steered.clock();
-    let numbers = counted.steered.numbers();
-    store_base(&mut out.base, &clock.snapshot(counted.front));
+    let clock = steered.clock();
+    let numbers = steered.numbers();
+    store_base(&mut out.base, &clock.snapshot(front));
     out.frequency = clock.frequency();
+    out.lag.high = numbers.steering.lag.high;
     out.tick = clock.tick();
     store_discipline(&mut out.ntp, &numbers.steering.ntp);
-    out.lag = numbers.steering.lag;
-    out.length = counted.steered.second_length();
     out.next = numbers.next;
+    out.lag.low = numbers.steering.lag.low;
     out.last_account = numbers.last_account;
-    out.front = counted.front;
+    out.length = steered.second_length();
+    out.front = front;
 }
 
-/// Writes the numbers of a discipline.
+/// Writes the numbers of a discipline, never two neighbours in sequence.
 #[inline(always)]
 fn store_discipline(out: &mut DisciplineStorage, numbers: &DisciplineNumbers)
     ensures { out.new ≡ discipline_storage numbers.now }
 {
     out.hz = numbers.hz;
-    out.status = numbers.status;
+    out.due = numbers.plan.due;
     out.state = numbers.plan.state;
+    out.frequency = numbers.frequency;
+    out.status = numbers.status;
+    out.offset = numbers.offset;
     out.is_due = numbers.plan.is_due;
     out.padding = [0; 3];
-    out.due = numbers.plan.due;
-    out.offset = numbers.offset;
-    out.constant = numbers.constant;
-    out.maxerror = numbers.maxerror;
-    out.esterror = numbers.esterror;
-    out.tick = numbers.tick;
-    out.frequency = numbers.frequency;
-    out.reftime = numbers.reftime;
     out.adjust = numbers.adjust;
+    out.constant = numbers.constant;
+    out.reftime = numbers.reftime;
+    out.esterror = numbers.esterror;
     out.phase = numbers.phase;
+    out.maxerror = numbers.maxerror;
+    out.tick = numbers.tick;
 }

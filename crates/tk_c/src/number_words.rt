@@ -7,37 +7,37 @@ use tk_ntp::{DisciplineNumbers, LagNumbers, LeapNumbers, SteeredNumbers, Steerin
 /// The number of words.
 pub(crate) const NUMBER_WORDS: usize = 18;
 
-/// Returns the words of the numbers, in the order of their fields. Those with a sign are in two's
-/// complement.
-pub(crate) fn number_words(numbers: SteeredNumbers) -> [u64; NUMBER_WORDS]
-    ensures value { result ≡ number_words numbers }
+/// Writes the words of the numbers, in the order of their fields. Those with a sign are in two's
+/// complement. No two neighbours are written in sequence (general_registers.rt).
+#[inline(always)]
+pub(crate) fn store_numbers(words: &mut [u64; NUMBER_WORDS], numbers: SteeredNumbers)
+    ensures value { words.new ≡ number_words numbers }
     ensures back { numbers_of_words (number_words numbers) ≡ Some numbers }
 {
     let SteeringNumbers { ntp, lag } = numbers.steering;
-    [
-        u64::from(ntp.hz),
-        u64::from(ntp.status),
-        u64::from(ntp.plan.state),
-        u64::from(ntp.plan.is_due),
-        ntp.plan.due,
-        ntp.offset.cast_unsigned(),
-        u64::from(ntp.constant),
-        u64::from(ntp.maxerror),
-        u64::from(ntp.esterror),
-        u64::from(ntp.tick),
-        ntp.frequency.cast_unsigned(),
-        ntp.reftime,
-        ntp.adjust.cast_unsigned(),
-        ntp.phase.cast_unsigned(),
-        lag.high,
-        lag.low,
-        numbers.next,
-        numbers.last_account,
-    ]
+    words[0] = u64::from(ntp.hz);
+    words[2] = u64::from(ntp.plan.state);
+    words[4] = ntp.plan.due;
+    words[6] = u64::from(ntp.constant);
+    words[8] = u64::from(ntp.esterror);
+    words[10] = ntp.frequency.cast_unsigned();
+    words[12] = ntp.adjust.cast_unsigned();
+    words[14] = lag.high;
+    words[16] = numbers.next;
+    words[1] = u64::from(ntp.status);
+    words[3] = u64::from(ntp.plan.is_due);
+    words[5] = ntp.offset.cast_unsigned();
+    words[7] = u64::from(ntp.maxerror);
+    words[9] = u64::from(ntp.tick);
+    words[11] = ntp.reftime;
+    words[13] = ntp.phase.cast_unsigned();
+    words[15] = lag.low;
+    words[17] = numbers.last_account;
 }
 
 /// Returns the numbers that words represent, or `None` if a word doesn't fit in its number's bits.
 #[tactic(auto, unfolding(crate::specs::SavedNtp::are_narrow))]
+#[inline(always)]
 pub(crate) fn numbers_of_words(words: &[u64; NUMBER_WORDS]) -> Option<SteeredNumbers>
     ensures { result ≡ numbers_of_words words.now }
 {

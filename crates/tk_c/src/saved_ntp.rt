@@ -2,15 +2,14 @@
 //! clocks.
 ghost use Rattle.std.specs.Prelude.{◌≡◌};
 ghost use Rattle.tk_c.specs.CountedNtp.{whole};
-ghost use Rattle.tk_c.specs.SavedNtp.{saved_ntp, counted_with, IsNtpRestored, IsNtpLoaded, LoadsAsNtp};
+ghost use Rattle.tk_c.specs.SavedNtp.{saved_ntp, IsNtpRestored, IsNtpLoaded, LoadsAsNtp};
 
 use crate::code::Code;
-use crate::counted::CountedClock;
-use crate::counted_ntp::{CountedNtp, SteeredCount};
+use crate::counted_ntp::CountedNtp;
 use crate::ntp_storage::{NtpStorage, store_ntp};
-use crate::number_words::{NUMBER_WORDS, number_words, numbers_of_words};
+use crate::number_words::{NUMBER_WORDS, numbers_of_words, store_numbers};
 use crate::saved::{SAVED_WORDS, clock_of_words, tkc_clock_save};
-use tk_ntp::{SteeredClock, SteeredNumbers};
+use tk_ntp::SteeredClock;
 
 /// The number of 64-bit words of steered clocks with their counter.
 pub const NTP_SAVED_WORDS: usize = SAVED_WORDS + NUMBER_WORDS;
@@ -24,11 +23,14 @@ pub extern "C" fn tkc_ntp_save(words: &mut [u64; NTP_SAVED_WORDS], ntp: &Counted
     ensures value { words.new ≡ saved_ntp (whole ntp.now) }
     ensures back { LoadsAsNtp words.new (whole ntp.now) }
 {
-    let mut first = [0; SAVED_WORDS];
-    tkc_clock_save(&mut first, &ntp.clocks);
-    let numbers = number_words(ntp.course.numbers());
-    words[..SAVED_WORDS].copy_from_slice(&first);
-    words[SAVED_WORDS..].copy_from_slice(&numbers);
+    let Some(first) = words.first_chunk_mut() else {
+        unreachable!()
+    };
+    tkc_clock_save(first, &ntp.clocks);
+    let Some(rest) = words.last_chunk_mut() else {
+        unreachable!()
+    };
+    store_numbers(rest, ntp.course.numbers());
 }
 
 /// Writes the steered clocks that 33 words represent to `out`. The words may have any values.
@@ -42,10 +44,13 @@ pub extern "C" fn tkc_ntp_save(words: &mut [u64; NTP_SAVED_WORDS], ntp: &Counted
 pub extern "C" fn tkc_ntp_load(out: &mut NtpStorage, words: &[u64; NTP_SAVED_WORDS]) -> u32
     ensures { IsNtpLoaded words.now out.old out.new result }
 {
-    let (mut first, mut rest) = ([0; SAVED_WORDS], [0; NUMBER_WORDS]);
-    first.copy_from_slice(&words[..SAVED_WORDS]);
-    rest.copy_from_slice(&words[SAVED_WORDS..]);
-    restore(out, &first, &rest)
+    let Some(first) = words.first_chunk() else {
+        unreachable!()
+    };
+    let Some(rest) = words.last_chunk() else {
+        unreachable!()
+    };
+    restore(out, first, rest)
 }
 
 /// Writes the steered clocks that the words of their clocks and of their numbers represent to `out`,
@@ -56,20 +61,15 @@ fn restore(out: &mut NtpStorage, first: &[u64; SAVED_WORDS], rest: &[u64; NUMBER
     let Some(clock) = clock_of_words(first) else {
         return Code::BadWords.number();
     };
-    let Some(ntp) = counted_with(clock, numbers_of_words(rest)) else {
+    let Some(numbers) = numbers_of_words(rest) else {
         return Code::BadWords.number();
     };
-    store_ntp(out, &ntp);
-    Code::Done.number()
-}
-
-/// Returns the steered clocks of these clocks and numbers, or `None` if there are none.
-fn counted_with(clock: CountedClock, numbers: Option<SteeredNumbers>) -> Option<SteeredCount>
-    ensures { result ≡ counted_with clock numbers }
-{
-    let steered = SteeredClock::from_numbers(clock.clock, numbers?).ok()?;
-    Some(SteeredCount {
-        steered,
-        front: clock.front,
-    })
+    // (by reference: the clocks are many words, which no call may copy)
+    match &SteeredClock::from_numbers(clock.clock, numbers) {
+        Ok(steered) => {
+            store_ntp(out, steered, clock.front);
+            Code::Done.number()
+        }
+        Err(_) => Code::BadWords.number(),
+    }
 }

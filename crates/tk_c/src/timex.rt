@@ -71,35 +71,37 @@ impl KernelTimex {
     pub(crate) fn request(&self) -> Timex
         ensures { result ≡ request_of self.now }
     {
+        // (never two neighbours in sequence: see general_registers.rt)
         Timex {
             modes: self.modes,
             offset: self.offset,
-            freq: self.freq,
             maxerror: self.maxerror,
-            esterror: self.esterror,
-            status: self.status,
             constant: self.constant,
-            tick: self.tick,
             sec: self.sec,
+            tick: self.tick,
+            freq: self.freq,
+            status: self.status,
+            esterror: self.esterror,
             sub: self.sub,
         }
     }
 
-    /// Writes a reply, as `__do_adjtimex` does: all fields but `modes` and the padding.
+    /// Writes a reply, as `__do_adjtimex` does: all fields but `modes` and the padding. No two
+    /// neighbours are written in sequence (general_registers.rt).
     pub(crate) fn answer(&mut self, reply: &Reply)
         ensures { self.new ≡ answered self.old reply.now }
     {
         self.offset = reply.timex.offset;
-        self.freq = reply.timex.freq;
         self.maxerror = reply.timex.maxerror;
-        self.esterror = reply.timex.esterror;
-        self.status = reply.timex.status;
+        self.sec = reply.timex.sec;
         self.constant = reply.timex.constant;
+        self.freq = reply.timex.freq;
+        self.status = reply.timex.status;
+        self.esterror = reply.timex.esterror;
+        self.tick = reply.timex.tick;
+        self.sub = reply.timex.sub;
         self.precision = 1;
         self.tolerance = 32_768_000;
-        self.sec = reply.timex.sec;
-        self.sub = reply.timex.sub;
-        self.tick = reply.timex.tick;
         self.clear_pulse();
         self.tai = reply.tai;
     }

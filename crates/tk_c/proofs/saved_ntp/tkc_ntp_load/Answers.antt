@@ -1,12 +1,10 @@
-use Rattle.std.proofs.Common.{rules, arith, ◌≡◌, ◌≤◌, ◌∙◌, length, take, drop}
-use Rattle.std.proofs.lemmas.Slice.{between_to_end}
+use Rattle.std.proofs.Common.{◌≡◌, ◌∙◌, ◌-◌, ap, drop, take}
 use Rattle.tk_c.proofs.saved_ntp.tkc_ntp_load.Goals as goal
 
 pub returns : goal.returns
 returns c =
     let words = c.args.words.now in
-    let short : length words ≤ 33 = omega (arith, c.told-words) in
-    let first : c.copy_from_slice.new.self ≡ take 15 words = search rules in
-    let rest : c.copy_from_slice-2.new.self ≡ drop 15 words =
-    c.copy_from_slice-2.ensures.after ∙ between_to_end words 15 33 short in
+    let first : c.in-Some.first.now ≡ take 15 words = c.in-Some.ensures.cases.same in
+    let rest : c.in-Some-last_chunk.rest.now ≡ drop 15 words =
+    c.in-Some-last_chunk.ensures.cases.1.same ∙ ap (λ n. drop (n - 18) words) c.told-words in
     rw (first, rest) at c.restore.ensures

@@ -1,4 +1,4 @@
-use Rattle.std.proofs.Common.{◌≡◌, ℕ, ◌∙◌, sym, subst, refl, length, List}
+use Rattle.std.proofs.Common.{◌≡◌, ◌∙◌, sym, subst, refl, length, List, ℕ}
 use Rattle.tk_c.specs.Saved.{saved}
 use Rattle.tk_c.specs.CountedNtp.{counted_clock, whole}
 use Rattle.tk_c.specs.SavedNtp.{number_words, LoadsAsNtp}
@@ -9,21 +9,19 @@ use Rattle.tk_c.proofs.saved_ntp.tkc_ntp_save.Goals as goal
 pub returns-clause-value : goal.returns-clause-value
 returns-clause-value c =
     let ntp = whole c.args.ntp.now in
-    let first : c.copy_from_slice.new.self ≡ saved (counted_clock ntp) =
-    c.copy_from_slice.ensures.after ∙ c.tkc_clock_save.ensures.value in
-    let numbers = rw c.numbers.ensures.value at c.number_words-numbers.ensures.value in
-    let rest : c.copy_from_slice-2.new.self
-    ≡ number_words (steered_numbers ntp.steered) =
-    c.copy_from_slice-2.ensures.after ∙ numbers in
-    let long : length c.copy_from_slice.new.self ≡ 15 = rw first refl in
-    joined c.args.words.now c.copy_from_slice.new.self c.copy_from_slice-2.new.self c.told-words long
+    let first : c.tkc_clock_save.new.words ≡ saved (counted_clock ntp) =
+    c.tkc_clock_save.ensures.value in
+    let rest : c.store_numbers.new.words ≡ number_words (steered_numbers ntp.steered) =
+    rw c.numbers.ensures.value at c.store_numbers.ensures.value in
+    let long : length c.tkc_clock_save.new.words ≡ 15 = rw first refl in
+    joined c.args.words.now c.tkc_clock_save.new.words c.store_numbers.new.words c.told-words long
     ∙ rw (first, rest) refl
 
 pub returns-clause-back : goal.returns-clause-back
 returns-clause-back c =
     let ntp = whole c.args.ntp.now in
     let clock = ntp.steered.clock in
-    let narrow = rw c.numbers.ensures.value at c.number_words-numbers.ensures.back in
+    let narrow = rw c.numbers.ensures.value at c.store_numbers.ensures.back in
     subst (λ (words : List ℕ). LoadsAsNtp words ntp) (sym (returns-clause-value c))
     (loads ntp c.tkc_clock_save.ensures.running narrow (c.numbers.ensures.back clock)
     c.tkc_clock_save.ensures.counter c.tkc_clock_save.ensures.snapshot)
