@@ -21,6 +21,7 @@ pub mod Uptime
 pub mod Steering
 pub mod Effects
 pub mod Settings
+pub mod Testing
 pub mod Words
 pub mod Reaching
 pub mod Lines

@@ -3,7 +3,9 @@ ghost use Rattle.std.specs.Prelude.{◌≡◌, ◌≤◌, ◌⊎◌, ◌↔◌, 
 mod change_counter;
 mod effects;
 mod parts;
+mod replacing;
 mod settings;
+mod testing;
 mod uptime;
 
 use crate::amount::Amount;
@@ -219,7 +221,8 @@ impl Clock {
             × (self.new ≡ self.old)) }
     {
         self.check(reading, cmd)?;
-        *self = self.effect(reading, cmd)?;
+        let now = self.effect(reading, cmd)?;
+        self.replace(now);
         Ok(())
     }
 

@@ -4,6 +4,7 @@ mod carrying;
 mod changes;
 mod origins;
 mod reaching;
+mod testing;
 
 use crate::amount::Amount;
 use crate::clock_id::ClockId;

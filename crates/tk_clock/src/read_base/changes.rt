@@ -200,7 +200,7 @@ impl ReadBase {
 
 /// Returns whether `elapsed` plus `offset`, in ns, is at the limit of the clocks other than
 /// MONOTONIC.
-fn is_at_limit(elapsed: u64, offset: u64) -> bool
+pub(super) fn is_at_limit(elapsed: u64, offset: u64) -> bool
     ensures { result ≡ not (int_lt (pos elapsed +ℤ pos offset) (pos (clock_end * 10 ^ 9))) }
 {
     elapsed.saturating_add(offset) >= CLOCK_LIMIT

@@ -13,7 +13,7 @@ ghost use Rattle.tk_ntp.specs.SteeredClock.{reading_refusal};
 
 use super::Course;
 use crate::lag::FEW_CYCLES;
-use tk_clock::{Clock, ClockId, Command, Refusal, Timespec};
+use tk_clock::{Clock, ClockId, Refusal, Timespec};
 use tk_counter::NANOS_PER_SECOND;
 
 impl Course {
@@ -23,8 +23,7 @@ impl Course {
             (λ _. reading_refusal reading (seen clock.now self.now) ≡ None)
             (λ refusal. reading_refusal reading (seen clock.now self.now) ≡ Some refusal) }
     {
-        let mut next = *clock;
-        next.apply(reading, Command::Update)?;
+        clock.test_update(reading)?;
         if self.is_behind(clock, reading) {
             return Err(Refusal::Behind);
         }
