@@ -84,17 +84,14 @@
  *
  * Contexts
  *   No call waits, takes a lock, allocates, calls back, ends the process or keeps state between
- *   calls. Each call uses less than 1.4 kB of stack, and tkc_ntp_load less than 1.8 kB. So a
- *   process, a softirq, an interrupt, an NMI or a signal handler may make any call, if the
- *   archive's code may run there. In a process it always may. A kernel module must follow the list
- *   in docs/C.md, "In the Linux kernel". In short:
+ *   calls. Each call uses less than 1.4 kB of stack. So a process, a softirq, an interrupt, an NMI
+ *   or a signal handler may make any call, if the archive's code may run there. In a process it
+ *   always may. A kernel module must follow the list in docs/C.md, "In the Linux kernel". In short:
  *     - Link the archive of `tools/build_c --backend rattle`. The archive of LLVM uses the red zone
  *       below the stack pointer, and requires a stack that is aligned to 16 bytes.
- *     - tkc_snapshot_convert, tkc_ntp_open, tkc_ntp_open_at, tkc_ntp_advance,
- *       tkc_ntp_advance_late, tkc_ntp_apply, tkc_ntp_change_counter, tkc_ntp_tick, tkc_adjtimex,
- *       tkc_ntp_pulse, tkc_ntp_save and tkc_ntp_load use SSE registers: call them between
- *       kernel_fpu_begin() and kernel_fpu_end(), and only if irq_fpu_usable(). All other calls may
- *       then be made in any context.
+ *     - tkc_snapshot_convert uses SSE registers: call it between kernel_fpu_begin() and
+ *       kernel_fpu_end(), and only if irq_fpu_usable(). All other calls may then be made in any
+ *       context.
  *   Two threads must not write one value at the same time, and no thread may write a value while
  *   another reads it. The caller's lock must prevent both (as timekeeper_lock does, and tk_core.seq
  *   for readers). tkcore_page.h contains a page for such readers. A reader in an NMI must not wait

@@ -17,7 +17,7 @@ DURATION = re.compile(r"\b(?:\d[\d.,]*|an?|one|two|three|five|ten|half an?|few|s
 HEADER, CONVERT = "include/tkcore.h", "tkc_snapshot_convert"
 CALL = re.compile(r"tkc_\w+")
 # the header's list of the calls that use SSE registers, and how pages list or count them
-SSE_CALLS = re.compile(r"- (tkc_[\w, ]+) use SSE registers")
+SSE_CALLS = re.compile(r"- (tkc_[\w, ]+) uses? SSE registers")
 SSE_LIST = re.compile(r"(?:in most calls \| only in|Only these use SSE registers:)"
                       r"((?:,? (?:and )?`tkc_\w+`)+)")
 NOT_ANYWHERE = re.compile(r"All calls except (\w+) may then be made in any context")

@@ -12,7 +12,6 @@
 
 #include "trial.h"
 
-#include <asm/fpu/api.h>
 #include <linux/math64.h>
 #include <linux/mutex.h>
 #include <linux/proc_fs.h>
@@ -28,18 +27,13 @@ static struct tkc_ntp ntp;
 static bool is_open;
 static struct reply reply;
 
-/* The calls on steered clocks use SSE registers. */
-
 static u32 open_at(const struct system_time_snapshot *kernel)
 {
-	u32 code, nsec;
+	u32 nsec;
 	s64 sec = div_s64_rem(ktime_to_ns(kernel->real), NSEC_PER_SEC, &nsec);
 
-	kernel_fpu_begin();
-	code = tkc_ntp_open(&ntp, &trial.clocks.counter, counter_reading(kernel),
+	return tkc_ntp_open(&ntp, &trial.clocks.counter, counter_reading(kernel),
 			    sec, nsec, HZ);
-	kernel_fpu_end();
-	return code;
 }
 
 /* Makes the request in `reply` at the present reading. */
@@ -47,10 +41,8 @@ static void ask(void)
 {
 	u32 state = 0, code;
 
-	kernel_fpu_begin();
 	code = tkc_adjtimex(&reply.timex, &state, &ntp,
 			    trial.clocks.read_counter());
-	kernel_fpu_end();
 	reply.result = code == TKC_INVALID ? -EINVAL : code ? -EIO : state;
 }
 
@@ -66,9 +58,7 @@ static u32 difference(s64 *ns)
 
 	ktime_get_snapshot(&kernel);
 	reading = counter_reading(&kernel);
-	kernel_fpu_begin();
 	code = tkc_ntp_advance(&after, reading);
-	kernel_fpu_end();
 	tkc_ntp_snapshot(&snapshot, &after);
 	if (!code)
 		code = tkc_snapshot_get(&time, &snapshot, TKC_CLOCK_REALTIME,

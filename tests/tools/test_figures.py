@@ -106,23 +106,22 @@ class Figures(unittest.TestCase):
         return list(figures.other_sse_calls({"a.md": page("a.md", text)}))
 
     def test_calls_with_sse_registers_are_those_of_the_header(self):
-        steered = [f"`tkc_ntp_{it}`" for it in ("open", "open_at", "advance", "advance_late", "apply",
-                                                "change_counter", "pulse", "tick", "save")]
-        listed = f"`tkc_snapshot_convert`, {', '.join(steered)},\n`tkc_adjtimex` and `tkc_ntp_load`"
+        listed = "`tkc_snapshot_convert`"
         self.assertEqual([], self.sse(f"Only these use SSE registers:\n  {listed} (`sse_calls`)."))
         self.assertEqual([], self.sse(f"| SSE | in most calls | only in {listed} |"))
         fault = "a.md: SSE registers: not as in include/tkcore.h: "
         for form in "Only these use SSE registers: {}.", "| in most calls | only in {} |":
-            self.assertEqual([f"{fault}tkc_ntp_save"],
-                             self.sse(form.format(listed.replace("`tkc_ntp_save`,", ""))))
-            self.assertEqual([f"{fault}tkc_ntp_leap"], self.sse(form.format(f"`tkc_ntp_leap`, {listed}")))
+            self.assertEqual([f"{fault}tkc_ntp_save tkc_snapshot_convert"],
+                             self.sse(form.format("`tkc_ntp_save`")))
+            self.assertEqual([f"{fault}tkc_ntp_leap"], self.sse(form.format(f"`tkc_ntp_leap`,\n{listed}")))
+            self.assertEqual([f"{fault}tkc_ntp_leap tkc_ntp_save"],
+                             self.sse(form.format(f"{listed}, `tkc_ntp_leap` and `tkc_ntp_save`")))
 
     def test_the_number_of_these_calls_is_the_headers(self):
-        self.assertEqual([], self.sse("All calls except twelve may then be made in any context."))
-        self.assertEqual([], self.sse("Eleven calls on steered clocks\nuse SSE registers."))
+        self.assertEqual([], self.sse("All calls except one may then be made in any context."))
         self.assertEqual(["a.md: All calls except eight may then be made in any context, "
-                          "but include/tkcore.h lists 12"],
+                          "but include/tkcore.h lists 1"],
                          self.sse("All calls except eight may then be\nmade in any context."))
         self.assertEqual(["a.md: seven calls on steered clocks use SSE registers, "
-                          "but include/tkcore.h lists 11"],
+                          "but include/tkcore.h lists 0"],
                          self.sse("and seven calls on steered clocks use SSE registers"))
