@@ -1,4 +1,5 @@
 ghost use Rattle.std.specs.Prelude.{◌≡◌, ◌-◌, ◌^◌, ◌<◌, ◌≤◌, length, map, min, sum_by, IfOk, MatchResult, None, vec_len, vec_capacity};
+ghost use Rattle.tk_clock.specs.Legal.{Opened};
 ghost use Rattle.tk_clock.specs.Limits.{listed_most};
 ghost use Rattle.tk_shared.specs.Opening.{IsNamed};
 ghost use Rattle.tk_race.specs.Race.{IsRaced, IsOutcome, orders_in};
@@ -51,7 +52,8 @@ pub fn race<G: Gate + Sync, R: Threads + Wait + Sync>(
     ensures { MatchResult result
         (λ report. (race_error (length actors.now) desc reading real ≡ None)
         × IsRaced desc reading step real (map (λ a. a.items) actors.now) report.keeper.journal
-        (map (λ r. r.items) report.replies.items))
+        (map (λ r. r.items) report.replies.items)
+        × (report.keeper.began ≡ Opened))
         (λ error. IsRaceError (length actors.now) desc reading real error) }
 {
     if actors.is_empty() || actors.len() > CALLERS_LIMIT {
@@ -110,7 +112,8 @@ fn raced<L: Named + Send + Sync, G: Gate + Sync, R: Threads + Wait + Sync>(
         ≤ prepared.spare }
     ensures { MatchResult result
         (λ report. IsOutcome counter.now prepared.entry.journal (map (λ a. a.items) actions.now)
-        report.keeper.journal (map (λ r. r.items) report.replies.items))
+        report.keeper.journal (map (λ r. r.items) report.replies.items)
+        × (report.keeper.began ≡ Opened))
         IsLate }
 {
     let Ok((keeper, callers)) = RaceKeeper::<L>::open(alloc, prepared) else {

@@ -1,6 +1,7 @@
 //! Closes a shared keeper after all callers are back.
 ghost use Rattle.std.specs.Prelude.{◌≡◌, ◌+◌, ◌<◌, ◌≤◌, All, MatchResult, Some, length, vec_len};
 ghost use mathlib.Core.List.{IsPrefix};
+ghost use Rattle.tk_clock.specs.Legal.{Opened};
 ghost use Rattle.tk_now.specs.Moments.{AreInLife, AreInTurn};
 ghost use Rattle.tk_shared.specs.Closing.{AreDifferent, HasFolded, HasListed, HasNoticed, HaveListed, IsClosed, IsPartOf, accepted_by};
 ghost use Rattle.tk_shared.specs.Errors.{missing_debug, missing_text};
@@ -66,7 +67,8 @@ impl<L: Named, C: Counter> SharedKeeper<L, C> {
     pub fn close<R: Wait>(self, rt: &R, callers: Vec<Caller<L>>) -> Result<Closed<C>, Missing<L, C>>
         requires different { AreDifferent callers.items }
         ensures { MatchResult result
-            (λ closed. (self ≤ vec_len callers) × IsClosed closed.keeper.journal callers.items)
+            (λ closed. (self ≤ vec_len callers) × IsClosed closed.keeper.journal callers.items
+            × (closed.keeper.began ≡ Opened))
             (λ missing. (vec_len callers < self) × (missing.keeper ≡ self)
             × (missing.callers.items ≡ callers.items)) }
     {

@@ -36,6 +36,7 @@ pub struct Locked<L: Named, C: Counter> {
 
 impl<L: Named, C: Counter> Model for Locked<L, C> {
     ghost use Rattle.std.specs.Prelude.{◌≡◌};
+    ghost use Rattle.tk_clock.specs.Legal.{Opened};
     ghost use Rattle.tk_shared.specs.Folds.{IsCounting};
     ghost use Rattle.tk_shared.specs.Locked.{Guarded, held_of, IsAtRest, IsHeld};
 
@@ -48,7 +49,8 @@ impl<L: Named, C: Counter> Model for Locked<L, C> {
         (held_of c.keeper.journal c.writers.page c.writers.latch c.mask c.book.total)
         × (c.rest.parts ≡ 0) × (c.rest.amount ≡ 0)
         × IsAtRest L.notice.commands c.writers.page.journal c.writers.notice
-        × IsCounting L.notice.folds c.keeper.journal.opening.count c.writers.folds };
+        × IsCounting L.notice.folds c.keeper.journal.opening.count c.writers.folds
+        × (c.keeper.began ≡ Opened) };
 }
 
 impl<L: Named, C: Counter> Locked<L, C> {

@@ -41,6 +41,7 @@ pub struct Prepared<C: Counter> {
 impl<C: Counter> Model for Prepared<C> {
     ghost use Rattle.std.specs.Prelude.{◌≡◌, length};
     ghost use Rattle.tk_counter.specs.Counter.{mask as greatest_reading};
+    ghost use Rattle.tk_clock.specs.Legal.{Opened};
     ghost use Rattle.tk_shared.specs.Opening.{Start, IsReady, start_of};
 
     ghost Value = { Start };
@@ -50,7 +51,8 @@ impl<C: Counter> Model for Prepared<C> {
     ghost invariant = { λ p.
         IsReady (start_of p.parts p.blank.name (length p.parts.readers.items)) p.parts
         × (p.mask ≡ greatest_reading p.parts.keeper.journal.opening.counter)
-        × (p.blank.parts ≡ length p.parts.readers.items) };
+        × (p.blank.parts ≡ length p.parts.readers.items)
+        × (p.parts.keeper.began ≡ Opened) };
 }
 
 /// Prepares a keeper with `callers` callers and this counter, which it reads once. The clocks open
@@ -120,7 +122,8 @@ fn assemble<R: Wait>(
     requires empty { keeper.journal.entries ≡ [] }
     ensures { IfOk result (λ parts. (parts.keeper.journal ≡ keeper.journal)
         × (min room listed_most ≤ parts.keeper.spare)
-        × IsReady (start_of parts 0 callers) parts) }
+        × IsReady (start_of parts 0 callers) parts
+        × (parts.keeper.began ≡ keeper.began)) }
 {
     let mut keeper = keeper;
     if keeper.reserve(room).is_err() {

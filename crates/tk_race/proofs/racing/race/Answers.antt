@@ -24,7 +24,7 @@ returns-in-Ok-prepare g c =
     } in
     let fine = nothing_wrong many c.args.desc c.args.reading c.args.real fit low in
     answered many c.args.desc c.args.reading c.args.real _ _ c.raced.result fine
-    (λ report outcome. (
+    (λ report stated. (
       fine,
       record {
         ticker = c.new-counter.result;
@@ -33,6 +33,7 @@ returns-in-Ok-prepare g c =
         start = start;
         opened = opened;
         ticked = read;
-        outcome = outcome;
+        outcome = stated.0;
       },
+      stated.1,
     )) c.raced.ensures

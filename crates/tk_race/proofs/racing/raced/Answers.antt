@@ -46,8 +46,10 @@ returns g c =
     search rules in
     let some = c.requires.some in
     let each = length-map c.args.actions.now (λ (a : Vec Action). a.items) in
-    let done = c.in_ok-back.ensures in
-    outcome c.args.counter.now start.latch start.notice start.journal
-    c.in-Ok-close.closed.keeper.journal start.callers _ done.olds done.news
-    c.in_ok-back.back.items _ (omega (arith, some, each)) (done.began ∙ known) done.acted
-    done.ended done.replied c.in-Ok-close.ensures.1
+    let done = c.in_ok-back.ensures in (
+      outcome c.args.counter.now start.latch start.notice start.journal
+          c.in-Ok-close.closed.keeper.journal start.callers _ done.olds done.news
+          c.in_ok-back.back.items _ (omega (arith, some, each)) (done.began ∙ known) done.acted
+          done.ended done.replied c.in-Ok-close.ensures.1,
+      c.in-Ok-close.ensures.2,
+    )

@@ -189,6 +189,7 @@ invariant_of-self g c =
       counts_on g.L.Named.notice.folds c.self.inside.writers.folds c.show.new.self _ _
           c.self.invariant.4 c.show.ensures.same
           (ap (λ (j : Journal). j.opening.count) (sym kept)),
+      c.in-Err.ensures.began ∙ c.self.invariant.5,
     )
 
 pub invariant_of-self-2 : goal.invariant_of-self-2
@@ -211,6 +212,7 @@ invariant_of-self-2 g c =
       counts_on g.L.Named.notice.folds c.self.inside.writers.folds c.show.new.self _ _
           c.self.invariant.4 c.show.ensures.same
           (ap (λ (j : Journal). j.opening.count) (sym c.in-Ok.ensures.answer.1)),
+      c.in-Ok.ensures.began ∙ c.self.invariant.5,
     )
 
 pub invariant_of-caller-2 : goal.invariant_of-caller-2

@@ -50,6 +50,7 @@ invariant_of-self g c =
             ∙ ap (λ (w : Counting). w.notice) same.2 ∙ c.self.invariant.4.0,
         omega (arith, low, shown, listed, before, was, count, now),
       ),
+      c.fold-folded.ensures.began ∙ c.self.invariant.5,
     )
 
 pub returns-clause-folded : goal.returns-clause-folded

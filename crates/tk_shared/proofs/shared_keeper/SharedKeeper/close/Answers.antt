@@ -24,4 +24,5 @@ returns g c =
           c.args.callers.items c.keeper.invariant.0 c.keeper.invariant.3 c.requires.different
           c.take_all.ensures.seen c.take_all.ensures.noticed c.take_all.ensures.listed
           folded total,
+      c.keeper.invariant.5,
     )
