@@ -133,19 +133,25 @@ void process_tick(u64 reading)
 	update_wall_time();
 }
 
-/* Makes a tick. Returns in how many SSE registers it leaves another number than they had. */
-int process_tick_with_sse(u64 reading)
+/* Makes a call. Returns in how many SSE registers it leaves another number than they had. */
+static int count_sse_changes(void (*call)(void))
 {
 	static u8 xmm[2][16][16] __aligned(16);
 	int i, changed = 0;
 
 	for (i = 0; i < 16; i++)
 		memset(xmm[0][i], 0x11 + i, 16);
-	now = reading;
-	call_with_sse(update_wall_time, xmm);
+	call_with_sse(call, xmm);
 	for (i = 0; i < 16; i++)
 		changed += !!memcmp(xmm[0][i], xmm[1][i], 16);
 	return changed;
+}
+
+/* Makes a tick, and counts the SSE registers that it changes. */
+int process_tick_with_sse(u64 reading)
+{
+	now = reading;
+	return count_sse_changes(update_wall_time);
 }
 
 int process_adjtimex(void *timex, u64 reading)
@@ -163,13 +169,23 @@ int process_settime(s64 sec, s64 nsec, u64 reading)
 }
 
 #ifdef CONFIG_NTP_PPS
-/* A pulse came `nsec` ns after a second of REALTIME, when MONOTONIC_RAW was `raw` ns. */
-void process_pulse(u32 nsec, u64 raw, u64 reading)
-{
-	struct timespec64 phase = { 1, nsec }, raw_time = ns_to_timespec64(raw);
+static struct timespec64 pulse_phase, pulse_raw;
 
+static void make_pulse(void)
+{
+	hardpps(&pulse_phase, &pulse_raw);
+}
+
+/*
+ * A pulse came `nsec` ns after a second of REALTIME, when MONOTONIC_RAW was `raw` ns. Counts the SSE
+ * registers that it changes.
+ */
+int process_pulse(u32 nsec, u64 raw, u64 reading)
+{
+	pulse_phase = (struct timespec64){ 1, nsec };
+	pulse_raw = ns_to_timespec64(raw);
 	now = reading;
-	hardpps(&phase, &raw_time);
+	return count_sse_changes(make_pulse);
 }
 
 /* Stores the numbers that the state of the signal is kept in. */

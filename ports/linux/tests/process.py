@@ -113,15 +113,17 @@ def main():
         sys.exit(f"process: MONOTONIC is off by {off} ns, with ticks as far apart as they may be")
     if warned:
         sys.exit(f"process: the port warned {warned} times")
+    if not pulsed.rates:
+        sys.exit("process: no pulse has a frequency that changes the rate")
     if len(pulsed.lines) != 4:
         sys.exit(f"process: there are only these lines of hardpps in the log: {pulsed.lines}")
     kinds = ", ".join(f"{number} of {kind}" for kind, number in timeline.kinds.items())
     print(f"process: {wrong.refused} wrong calls have the errno of the unmodified kernel, and "
           f"{wrong.changes} audit records are equal")
     print(f"process: {kinds}: all clocks are those of the definitions")
-    print(f"process: {pulsed.kinds['pulse']} pulses, {pulsed.taken} frequencies of intervals, "
-          f"{pulsed.lost} lost signals and {sum(pulsed.lines.values())} lines in the log are those of "
-          "the definitions")
+    print(f"process: {pulsed.kinds['pulse']} pulses, {pulsed.taken} intervals, {pulsed.rates} of them "
+          f"with another rate, {pulsed.lost} lost signals and {sum(pulsed.lines.values())} lines in "
+          "the log are those of the definitions")
     print(f"process: MONOTONIC goes back at no tick, and at {backs[1]} of the control")
     return 0
 

@@ -1,5 +1,5 @@
 /* SPDX-License-Identifier: GPL-2.0 */
-/* A tick while the SSE registers have numbers, for process.c. */
+/* Calls while the SSE registers have numbers, for process.c. */
 
 #define ALL(of) of(0) of(1) of(2) of(3) of(4) of(5) of(6) of(7) of(8) of(9) of(10) of(11) of(12) \
 		of(13) of(14) of(15)

@@ -19,7 +19,6 @@
 #define FIRST_NS (3 * NSEC_PER_MSEC)	/* that REALTIME is ahead at the start */
 #define LAST 60				/* seconds at the end in which REALTIME must be near */
 #define NEAR_NS 2000
-#define LOST (130 + 9)			/* the second in which the signal is lost, or the next */
 #define STATUS (STA_PPSSIGNAL | STA_PPSWANDER | STA_PPSERROR)
 
 static unsigned int seconds __initdata;
@@ -79,20 +78,15 @@ static s64 __init take_pulse(s64 raw)
 	return real_time.tv_nsec - (real_time.tv_nsec > NSEC_PER_SEC / 2 ? NSEC_PER_SEC : 0);
 }
 
-/*
- * Logs what adjtimex answers: first what is the same in both kernels. The signal is lost in one of
- * two seconds, depending on whether REALTIME was ahead of the last pulse or not.
- */
+/* Logs what adjtimex answers: first what is the same in both kernels. */
 static void __init log_answer(unsigned int second, s64 ahead)
 {
-	bool is_equal = second != LOST && second != LOST + 1;
 	struct __kernel_timex txc = { };
 
 	do_adjtimex(&txc);
-	pr_info("%s pulse %u: status %#x freq %lld ppsfreq %lld shift %d stabil %lld calcnt %lld "
-		"errcnt %lld stbcnt %lld\n", is_equal ? "ANSWER" : "tkc: lost,", second,
-		txc.status & STATUS, txc.freq, txc.ppsfreq, txc.shift, txc.stabil, txc.calcnt,
-		txc.errcnt, txc.stbcnt);
+	pr_info("ANSWER pulse %u: status %#x freq %lld ppsfreq %lld shift %d stabil %lld calcnt %lld "
+		"errcnt %lld stbcnt %lld\n", second, txc.status & STATUS, txc.freq, txc.ppsfreq,
+		txc.shift, txc.stabil, txc.calcnt, txc.errcnt, txc.stbcnt);
 	pr_info("tkc: pulse %u: REALTIME is %lld ns ahead, jitter %lld, jitcnt %lld\n", second, ahead,
 		txc.jitter, txc.jitcnt);
 }

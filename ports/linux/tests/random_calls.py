@@ -68,14 +68,21 @@ class Timeline(Sleeps, Orders):
         self.steered.apply(reading, "update")
 
     def tick(self):
-        """A tick does nothing before the interval of a tick, in cycles and rounded, has passed."""
         reading, clock = self.reading(), self.steered.clock
-        _, mult, shift = self.numbers
-        interval = ((NANOS // HZ << shift) + mult // 2) // mult
         if self.random.randrange(8) == 0:
-            reading = (clock.last + interval - self.random.randrange(2)) % 2**clock.counter.bits
+            reading = clock.last + self.interval() - self.random.randrange(2)
+        self.tick_at(reading % 2**clock.counter.bits)
+
+    def interval(self):
+        """The cycles of a tick, rounded."""
+        _, mult, shift = self.numbers
+        return ((NANOS // HZ << shift) + mult // 2) // mult
+
+    def tick_at(self, reading):
+        """A tick does nothing before its interval has passed since the last change."""
+        clock = self.steered.clock
         self.expect(self.calls.process_tick_with_sse(self.at(reading)), 0, "SSE registers")
-        if clock.counter.gap(clock.last, reading) >= interval:
+        if clock.counter.gap(clock.last, reading) >= self.interval():
             self.forward_to(reading)
 
     def set(self):

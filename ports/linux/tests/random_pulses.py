@@ -30,7 +30,7 @@ class PulseTimeline(Timeline):
     def __init__(self, seed, calls):
         super().__init__(seed, calls)
         self.steered.signal, self.raw, self.drift = Pps(), 10 * NANOS, 30_000
-        self.taken = self.lost = 0
+        self.taken = self.lost = self.rates = 0
         self.lines = {}
 
     def kind(self):
@@ -75,29 +75,43 @@ class PulseTimeline(Timeline):
         """The signal is lost, and a frequency is asked for before the next pulse. The first
         interval is compared with that frequency. There is none before MONOTONIC_RAW is 1 s."""
         clock, wait = self.steered.clock, self.random.randrange(10, 13) * self.second()
-        reading = (clock.last + wait) % 2**clock.counter.bits
-        self.calls.process_tick(self.at(reading))
-        self.forward_to(reading)
+        self.tick_at((clock.last + wait) % 2**clock.counter.bits)
         self.adjtimex(modes=FREQUENCY, freq=self.random.choice([-400, 400]) << 16)
         self.raw = self.random.choice([self.raw, -1, 0])
         self.take(0, NANOS, 100)
         for _ in range(5):
             self.take(self.second(), NANOS + self.random.randrange(20_000), 100)
 
+    def forward_to(self, reading):
+        """Counts the signals that are lost too."""
+        had = self.steered.ntp.status & STA_PPSSIGNAL
+        super().forward_to(reading)
+        self.lost += bool(had and not self.steered.ntp.status & STA_PPSSIGNAL)
+
     def take(self, later, gap, nsec):
         """A pulse some cycles after the last command, and a gap of MONOTONIC_RAW after the last
-        pulse."""
+        pulse. Mostly a tick follows, which begins the second that the pulse marks."""
         signal, clock = self.steered.signal, self.steered.clock
         reading = (clock.last + later) % 2**clock.counter.bits
         self.raw += gap
-        had = self.steered.ntp.status & STA_PPSSIGNAL
-        self.calls.process_pulse(nsec, u64(self.raw), self.at(reading))
-        self.forward_to(reading)
-        self.lost += bool(had and not self.steered.ntp.status & STA_PPSSIGNAL)
-        was = replace(signal)
-        self.steered.pulse(reading, nsec, self.raw)
+        before, was = self.calls.process_time(1, self.at(reading)), replace(signal)
+        changed = self.calls.process_pulse(nsec, u64(self.raw), self.at(reading))
+        self.expect(changed, 0, "SSE registers after a pulse")
+        self.expect(self.calls.process_time(1, self.at(reading)), before, "MONOTONIC after a pulse")
+        self.change(nsec)
         self.taken += signal.calcnt - was.calcnt
         self.compare_lines(list(lines_of(was, signal, self.steered.ntp.status, self.raw)))
+        if self.random.randrange(4):
+            later += self.random.randrange(2 * self.interval())
+            self.tick_at((clock.last + later) % 2**clock.counter.bits)
+
+    def change(self, nsec):
+        """A pulse changes the discipline at the reading of the last change, and no clock: they get
+        the pulse's frequency as the next second begins."""
+        clock = replace(self.steered.clock)
+        self.steered.pulse(clock.last, nsec, self.raw)
+        self.rates += self.steered.clock.mult() != clock.mult()
+        self.steered.clock = clock
 
     def do_asleep(self, reading):
         """A pulse that comes while the machine sleeps does nothing."""

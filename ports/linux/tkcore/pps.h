@@ -60,16 +60,43 @@ static void tk_fill_pps(struct tkc_timex *reply)
 	tkc_pps_reply(reply, &state, &tk_pps);
 }
 
-/* Takes a pulse at a reading (tkc_ntp_pulse), and logs what is wrong with it. */
-static void tk_take_pulse(u64 now, u32 nsec, s64 raw)
+/*
+ * Puts back the clocks that were there before a pulse: readers have used their rate since the
+ * reading at which the pulse was taken. The discipline keeps the pulse's frequency, which the clocks
+ * get as the next second begins.
+ */
+static void tk_keep_clocks(const struct tkc_ntp *before)
 {
-	struct tkc_timex before, after;
+	static u64 clocks[TKC_NTP_SAVED_WORDS], words[TKC_NTP_SAVED_WORDS];
 
+	tkc_ntp_save(clocks, before);
+	tkc_ntp_save(words, &tk_state);
+	memcpy(words, clocks, TKC_SAVED_WORDS * sizeof(*words));
+	tk_check(tkc_ntp_load(&tk_state, words));
+}
+
+/*
+ * Takes a pulse (tkc_ntp_pulse), and logs what is wrong with it. It changes the discipline only.
+ *
+ * The second that the pulse marks may be due. As in the unmodified kernel, it begins at the next
+ * tick, and then makes the pulse's correction. So the pulse is taken at the reading of the last
+ * change, at which no second is due.
+ */
+static void tk_take_pulse(u32 nsec, s64 raw)
+{
+	static struct tkc_timex before, after;
+	static struct tkc_ntp former;
+	u64 last = tk_core.timekeeper.tkr_mono.cycle_last;
+
+	former = tk_state;
 	tk_fill_pps(&before);
-	if (tk_check(tkc_ntp_pulse(&tk_state, &tk_pps, now, nsec, raw)))
+	if (tk_check(tkc_ntp_pulse(&tk_state, &tk_pps, last, nsec, raw)))
 		return;
 	tk_fill_pps(&after);
+	if (after.calcnt != before.calcnt)	/* the clocks may have the pulse's frequency */
+		tk_keep_clocks(&former);
 	tk_log_pulse(&before, &after, nsec, raw);
+	WRITE_ONCE(tk_status, tkc_ntp_status(&tk_state));
 }
 
 #else
