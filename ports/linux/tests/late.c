@@ -22,6 +22,7 @@ typedef int32_t s32;
 typedef uint32_t u32;
 
 static struct tkc_ntp tk_state;
+static struct tkc_snapshot tk_snapshot;
 static struct { struct { s32 tai_offset; } timekeeper; } tk_core;
 static int inserted, deleted;
 

@@ -5,12 +5,6 @@
  * MONOTONIC fall.
  */
 
-/* Brings the clocks forward to a reading at which no second is due (TKC_CMD_UPDATE). */
-static enum tkc_code tk_update(u64 now)
-{
-	return tk_check(tkc_ntp_apply(&tk_state, now, TKC_CMD_UPDATE, 0, 0));
-}
-
 /* Logs the leap second that seconds with a change of TAI minus REALTIME have made. */
 static void tk_log_leap(s32 change)
 {
@@ -20,27 +14,37 @@ static void tk_log_leap(s32 change)
 		printk_deferred(KERN_NOTICE "Clock: deleting leap second 23:59:59 UTC\n");
 }
 
-/* Lets the seconds begin that are due up to a reading (tkc_ntp_advance_late). */
-static enum tkc_code tk_advance(u64 now)
+/* Counts the seconds of a tick, and logs their leap second. */
+static void tk_follow_seconds(s64 before)
 {
-	enum tkc_code code = tkc_ntp_advance_late(&tk_state, now);
-	struct tkc_snapshot snapshot;
-
-	tkc_ntp_snapshot(&snapshot, &tk_state);
-	tk_log_leap((s32)tkc_snapshot_tai(&snapshot) - tk_core.timekeeper.tai_offset);
-	return code;
+	tk_log_leap((s32)tkc_snapshot_tai(&tk_snapshot) - tk_core.timekeeper.tai_offset);
+	tk_count_seconds(before);
 }
 
-/* Brings the clocks forward to a reading, with the seconds that begin up to it. */
+/*
+ * Passes a tick: brings the clocks forward to a reading, with the seconds that begin up to it
+ * (tkc_ntp_tick). *changed becomes 0 if only time has passed. Then tk_snapshot is of now.
+ */
+static __always_inline enum tkc_code tk_pass(u64 now, u32 *changed)
+{
+	s64 before = tk_seconds();
+	enum tkc_code code;
+
+	*changed = ~0;	/* (of a refused tick) */
+	/* (the control: seconds begin at their own readings, and MONOTONIC falls) */
+	if (IS_ENABLED(TKC_CONTROL))
+		code = tkc_ntp_apply(&tk_state, now, TKC_CMD_UPDATE, 0, 0);
+	else
+		code = tkc_ntp_tick(&tk_snapshot, changed, &tk_state, now);
+	if (*changed)
+		tk_follow_seconds(before);
+	return tk_check(code);
+}
+
+/* Brings the clocks forward to a reading, as a tick does. */
 static enum tkc_code tk_forward(u64 now)
 {
-	enum tkc_code code = TKC_OK;
-	s64 before = tk_seconds();
+	u32 changed;
 
-	/* (the control: seconds begin at their own readings, and MONOTONIC falls) */
-	if (!IS_ENABLED(TKC_CONTROL))
-		code = tk_check(tk_advance(now));
-	code = code ?: tk_update(now);
-	tk_count_seconds(before);
-	return code;
+	return tk_pass(now, &changed);
 }

@@ -68,16 +68,17 @@ static void tk_fill_raw(struct timekeeper *tk, const u64 words[TKC_WORDS])
 	tk->raw_sec = sec;
 }
 
-/* Sets the timekeeper to a snapshot of tk_state. Returns whether REALTIME or TAI was set. */
-static bool tk_fill(struct timekeeper *tk)
+/*
+ * Sets the timekeeper to tk_snapshot. Returns whether REALTIME or TAI was set, which is so only if
+ * more than time has passed.
+ */
+static bool tk_fill(struct timekeeper *tk, bool is_tick)
 {
-	struct tkc_snapshot snapshot;
 	u64 words[TKC_WORDS];
 	bool set;
 
-	tkc_ntp_snapshot(&snapshot, &tk_state);
-	tkc_snapshot_words(words, &snapshot);
-	set = tk_fill_offsets(tk, words);
+	tkc_snapshot_words(words, &tk_snapshot);
+	set = !is_tick && tk_fill_offsets(tk, words);
 	tk_fill_mono(tk, words);
 	tk_fill_raw(tk, words);
 	return set;

@@ -8,7 +8,7 @@
 #include "tkcore.h"
 #include "sse.h"
 
-/* An action of timekeeping_update(): only time has passed. */
+/* An action of timekeeping_update(): only time has passed, and tk_snapshot is of now. */
 #define TK_TICK			(1 << 3)
 
 /*
@@ -17,6 +17,9 @@
  * readers and the vDSO compute times.
  */
 static struct tkc_ntp tk_state;
+
+/* The snapshot of tk_state from which timekeeping_update() takes its numbers. */
+static struct tkc_snapshot tk_snapshot;
 
 /* The status bits of the discipline (STA_UNSYNC ..), for a reader without the lock. */
 static u32 tk_status = STA_UNSYNC;

@@ -42,12 +42,14 @@ static u64 tk_begin(unsigned long *flags)
  */
 static bool timekeeping_update(struct timekeeper *tk, unsigned int action)
 {
-	u64 sec = tk->xtime_sec;
+	bool is_tick = action == TK_TICK;
 
-	if (tk_fill(tk))
+	if (!is_tick)
+		tkc_ntp_snapshot(&tk_snapshot, &tk_state);
+	if (tk_fill(tk, is_tick))
 		action |= TK_CLOCK_WAS_SET;
 	/* Only a second, a request or a command changes a leap or the status. */
-	if (action != TK_TICK || sec != tk->xtime_sec)
+	if (!is_tick)
 		tk_ask(tk);
 	update_vsyscall(tk);
 	update_pvclock_gtod(tk, action & TK_CLOCK_WAS_SET);
@@ -177,23 +179,15 @@ void __init timekeeping_init(void)
 #include "sleep.h"
 #include "hardpps.h"
 
-/* Whether REALTIME may have reached its next second. Below 2^31 cycles, the sum is below 2^64. */
-static bool tk_is_second_due(const struct tk_read_base *tkr, u64 now)
-{
-	u64 cycles = (now - tkr->cycle_last) & tkr->mask;
-
-	return cycles >> 31 ||
-	       cycles * tkr->mult + tkr->xtime_nsec >= (u64)NSEC_PER_SEC << tkr->shift;
-}
-
 /*
  * timekeeping_advance - a tick: brings the clocks forward with the seconds that are due. Returns
- * whether a leap second was made. Most ticks leave out tkc_ntp_advance_late, since none is due.
+ * whether a leap second was made. At most ticks only time has passed.
  */
 static bool timekeeping_advance(enum timekeeping_adv_mode mode)
 {
 	struct timekeeper *tk = &tk_core.timekeeper;
 	unsigned long flags;
+	u32 changed;
 	u64 now;
 
 	if (timekeeping_suspended ||
@@ -201,11 +195,8 @@ static bool timekeeping_advance(enum timekeeping_adv_mode mode)
 			      tk->tkr_mono.mask) < tk->cycle_interval)
 		return false;
 	now = tk_begin(&flags);
-	if (tk_is_second_due(&tk->tkr_mono, now))
-		tk_forward(now);
-	else
-		tk_update(now);
-	return tk_end(flags, TK_TICK);
+	tk_pass(now, &changed);
+	return tk_end(flags, changed ? 0 : TK_TICK);
 }
 
 /* timekeeping_ntp_status - the status bits, for the synchronization of the RTC */
