@@ -18,7 +18,7 @@
 
 #define FIRST_NS (3 * NSEC_PER_MSEC)	/* that REALTIME is ahead at the start */
 #define LAST 60				/* seconds at the end in which REALTIME must be near */
-#define NEAR_NS 2000
+#define NEAR_NS 500
 #define STATUS (STA_PPSSIGNAL | STA_PPSWANDER | STA_PPSERROR)
 
 static unsigned int seconds __initdata;
