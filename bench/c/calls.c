@@ -29,7 +29,7 @@ struct job {
 
 static const uint64_t HOURS = (uint64_t)1 << 40;
 
-void fail(const char *what)
+_Noreturn void fail(const char *what)
 {
 	fprintf(stderr, "calls: %s\n", what);
 	exit(EXIT_FAILURE);

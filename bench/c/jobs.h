@@ -35,6 +35,6 @@ void copy_all(struct list *list);
 /* Whether copy_all copies. Its check then differs from the library's. */
 extern const int copies;
 
-void fail(const char *what);
+_Noreturn void fail(const char *what);
 
 #endif
