@@ -35,6 +35,18 @@ class Bench(Case):
         for _, _, ours, peer, ratio, *_ in rows:
             self.assertAlmostEqual(float(ours) / float(peer), float(ratio), delta=0.02)
 
+    def test_pages_and_tkrun_are_timed(self):
+        self.assemble()
+        jobs = ["c_page_line", "c_page_line_4", "c_page_line_4_writer", "c_page_line_writer",
+                "run_coarse", "run_static_tsc"]
+        status, said, errors = self.run_tool("bench/run", "--library", str(self.dist), "--rounds",
+                                             "1", "c_page_line", "run_coarse", "run_static_tsc")
+        self.assertEqual(0, status, errors)
+        rows = [line.replace(" ", "").split("|")[1:-1] for line in said.splitlines()
+                if line.startswith(("| c_", "| run_"))]
+        timed = sorted(name for name, peer, ours, *_ in rows if peer == "vDSO" and float(ours) > 1)
+        self.assertEqual(sorted([*jobs, "c_page_line_ns"]), timed)
+
     def test_another_library_is_found_by_its_answers(self):
         # each of its calls returns 7
         self.assemble()
